@@ -1,0 +1,8 @@
+-- In reading order: the numbers of the faults, bits, the fields of a sheet, the rules of a whole plan, what a sheet says
+-- (decode), which routes are hostile, what holds of every plan, and the worked sheet.
+pub mod Scan
+pub mod Faults
+pub mod Bits
+pub mod Layouts
+pub mod Fields
+pub mod RouteSets
