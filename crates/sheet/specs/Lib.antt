@@ -6,3 +6,5 @@ pub mod Bits
 pub mod Layouts
 pub mod Fields
 pub mod RouteSets
+pub mod Rules
+pub mod Decode

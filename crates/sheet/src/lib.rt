@@ -4,3 +4,4 @@ mod bits;
 pub mod fault;
 pub mod layout;
 pub mod route_set;
+mod rules;

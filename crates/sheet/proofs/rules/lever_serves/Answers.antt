@@ -1,0 +1,16 @@
+use borrow.Author.Needs.{needs}
+use lib.Dec.{eqb}
+use mathlib.Core.Path.{sym}
+use native.Mathlib.Omega.{arith}
+use Rattle.std.proofs.shelf.Tests.{eq-eqb, ne-eqb}
+use Rattle.sheet.specs.Layouts.{routeIn}
+use Rattle.sheet.proofs.Scans.{any-more, any-hit}
+use Rattle.sheet.proofs.rules.lever_serves.Needs as need
+
+pub returns-then-layout-r : need.returns-then-layout-r
+returns-then-layout-r c =
+    sym (any-hit (λ r. eqb (routeIn (c .args .layout .now .routes) r .lever) (c .args .lever)) (c .args .layout .now .counts .routes) (c .loop-r .r) (omega arith) (eq-eqb _ _ (c .if-layout-r .taken)))
+
+pub loop-r-again : need.loop-r-again
+loop-r-again c =
+    any-more (λ r. eqb (routeIn (c .args .layout .now .routes) r .lever) (c .args .lever)) (c .loop-r .r) (c .loop-r .inv) (ne-eqb _ _ (c .if-layout-r .left))
