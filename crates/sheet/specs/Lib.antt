@@ -8,3 +8,6 @@ pub mod Fields
 pub mod RouteSets
 pub mod Rules
 pub mod Decode
+pub mod Hostility
+pub mod Valid
+pub mod Plans

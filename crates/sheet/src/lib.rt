@@ -2,6 +2,10 @@
 
 mod bits;
 pub mod fault;
+pub mod hostility;
 pub mod layout;
+pub mod plan;
+pub mod questions;
+pub mod reader;
 pub mod route_set;
 mod rules;
