@@ -11,3 +11,4 @@ pub mod Decode
 pub mod Hostility
 pub mod Valid
 pub mod Plans
+pub mod Worked

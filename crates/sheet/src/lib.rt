@@ -9,3 +9,4 @@ pub mod questions;
 pub mod reader;
 pub mod route_set;
 mod rules;
+pub mod worked;
