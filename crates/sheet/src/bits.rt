@@ -56,7 +56,7 @@ impl<'a> BitReader<'a> {
         ensures near { λ _. ⌜ now (self .exit) .at ≤ now (self .entry) .at + 4 ⌝ }
     {
         let place = self.at;
-        if self.field(4)? != 1 {
+        if take!(self.field(4)) != 1 {
             return Err(SheetFault { flaw: Flaw::WrongEdition, place });
         }
         Ok(())
@@ -69,7 +69,7 @@ impl<'a> BitReader<'a> {
         ensures near { λ _. ⌜ now (self .exit) .at ≤ now (self .entry) .at + width ⌝ }
     {
         let place = self.at;
-        let n = self.field(width)?;
+        let n = take!(self.field(width));
         if n < least || n > most {
             return Err(SheetFault { flaw: Flaw::CountOutside, place });
         }
@@ -84,7 +84,7 @@ impl<'a> BitReader<'a> {
         ensures near { λ _. ⌜ now (self .exit) .at ≤ now (self .entry) .at + width ⌝ }
     {
         let place = self.at;
-        let n = self.field(width)?;
+        let n = take!(self.field(width));
         if n >= limit {
             return Err(SheetFault { flaw: Flaw::NumberTooHigh, place });
         }
@@ -96,7 +96,7 @@ impl<'a> BitReader<'a> {
         ensures value { λ x. ⌜ told x (now (now (self .exit) .bytes)) (now (self .exit) .at) ≡ sideAt (now (now (self .entry) .bytes)) (now (self .entry) .at) ⌝ }
         ensures near { λ _. ⌜ now (self .exit) .at ≤ now (self .entry) .at + 1 ⌝ }
     {
-        let code = self.field(1)?;
+        let code = take!(self.field(1));
         Ok(if code == 0 { Side::Up } else { Side::Down })
     }
 
@@ -105,7 +105,7 @@ impl<'a> BitReader<'a> {
         ensures value { λ x. ⌜ told x (now (now (self .exit) .bytes)) (now (self .exit) .at) ≡ releaseAt (now (now (self .entry) .bytes)) (now (self .entry) .at) ⌝ }
         ensures near { λ _. ⌜ now (self .exit) .at ≤ now (self .entry) .at + 1 ⌝ }
     {
-        let code = self.field(1)?;
+        let code = take!(self.field(1));
         Ok(if code == 0 { Release::Station } else { Release::Train })
     }
 
@@ -115,7 +115,7 @@ impl<'a> BitReader<'a> {
         ensures near { λ _. ⌜ now (self .exit) .at ≤ now (self .entry) .at + 2 ⌝ }
     {
         let place = self.at;
-        match self.field(2)? {
+        match take!(self.field(2)) {
             0 => Ok(Demand::Nothing),
             1 => Ok(Demand::Plus),
             2 => Ok(Demand::Minus),
@@ -128,7 +128,7 @@ impl<'a> BitReader<'a> {
         ensures value { λ x. ⌜ told x (now (now (self .exit) .bytes)) (now (self .exit) .at) ≡ flagAt (now (now (self .entry) .bytes)) (now (self .entry) .at) ⌝ }
         ensures near { λ _. ⌜ now (self .exit) .at ≤ now (self .entry) .at + 1 ⌝ }
     {
-        let code = self.field(1)?;
+        let code = take!(self.field(1));
         Ok(code == 1)
     }
 

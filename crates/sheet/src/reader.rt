@@ -17,16 +17,6 @@ use crate::layout::Route;
 use crate::plan::Plan;
 use crate::rules::judge;
 
-// What `?` does, which costs the prover far more where many follow one another.
-macro_rules! take {
-    ($reading:expr) => {
-        match $reading {
-            Ok(value) => value,
-            Err(fault) => return Err(fault),
-        }
-    };
-}
-
 fn counts(bits: &mut BitReader) -> Result<Counts, SheetFault>
     requires { ⌜ now bits .at ≤ 4 ⌝ }
     ensures value { λ x. ⌜ told x (now (now (bits .exit) .bytes)) (now (bits .exit) .at) ≡ countsAt (now (now (bits .entry) .bytes)) (now (bits .entry) .at) ⌝ }
