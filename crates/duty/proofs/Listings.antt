@@ -9,5 +9,5 @@ use Rattle.duty.specs.Listing.{afterHex, listingOf}
 use Rattle.text.specs.Hex.{bytesOf}
 use Rattle.text.specs.Lines.{firstLine}
 
-pub from-hex : (input line : List ℕ) (o : Option (List ℕ)) → length input ≤ 65536 → line ≡ firstLine input → o ≡ bytesOf line → listingOf input ≡ afterHex o
-from-hex input line o h e f = let t = le-leb (length input) 65536 h in rw t (cc)
+pub from-hex : (input : List ℕ) (o : Option (List ℕ)) → length input ≤ 65536 → o ≡ bytesOf (firstLine input) → listingOf input ≡ afterHex o
+from-hex input o h e = let t = le-leb (length input) 65536 h in rw t (cc)

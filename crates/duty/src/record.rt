@@ -6,8 +6,7 @@ ghost use Rattle.duty.specs.Listing.{listingOf, sheetLine};
 use sheet::reader::read;
 use std::alloc::AllocError;
 use std::alloc::Global;
-use text::hex::unhex;
-use text::lines::first_line;
+use text::input::first_line_bytes;
 
 /// The most bytes that an input may have.
 const LIMIT: usize = 65_536;
@@ -36,7 +35,7 @@ pub(crate) fn listing(heap: Global, input: &[u8]) -> Result<String, AllocError>
     if input.len() > LIMIT {
         return String::from_str(heap, MALFORMED);
     }
-    match unhex(heap, first_line(input))? {
+    match first_line_bytes(heap, input)? {
         Some(sheet) => sheet_line(heap, sheet.as_slice()),
         None => String::from_str(heap, MALFORMED),
     }

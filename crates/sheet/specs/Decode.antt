@@ -44,3 +44,8 @@ decode s = settled (layoutAt s 0)
 abbrev pub judged : Layout → Result (Unit {0}) SheetFault → Outcome
 judged l (Ok u) = accepted l
 judged l (Err e) = refused (numberOf (e .flaw)) (e .place)
+
+-- a layout, or each case of a fault by its number and place
+abbrev pub drawn : Result Layout SheetFault → Outcome
+drawn (Ok l) = accepted l
+drawn (Err e) = refused (numberOf (e .flaw)) (e .place)

@@ -5,7 +5,7 @@ use mathlib.Core.List.{List}
 use mathlib.Core.Logic.{_⊎_}
 use mathlib.Core.Path.{_≡_}
 use Rattle.sheet.specs.Bits.{Bytes}
-use Rattle.sheet.specs.Layouts.{routeIn, blankLayout}
+use Rattle.sheet.specs.Layouts.{routeIn}
 use Rattle.sheet.specs.Rules.{hasLever, hasSignal}
 use Rattle.sheet.specs.Decode.{accepted, decode}
 use Rattle.sheet.specs.declared.layout.Route.{Route}
@@ -35,6 +35,20 @@ LeversServed l = (v : ℕ) → v < l .counts .levers → hasLever l v ≡ true
 abbrev pub SignalsServed : Layout → Type 0
 SignalsServed l = (g : ℕ) → g < l .counts .signals → hasSignal l g ≡ true
 
--- blank, or what a sheet says that has passed every rule
+-- no points where there are no routes
+abbrev pub Bare : Layout → Type 0
+Bare l = l .counts .routes ≡ 0 → l .counts .points ≡ 0
+
+-- no routes, or what a sheet says that has passed every rule
 abbrev pub Sound : Layout → Type 0
-Sound l = ∥ (l ≡ blankLayout) ⊎ ((s : List ℕ) × Bytes s × (decode s ≡ accepted l)) ∥₁
+Sound l = ∥ (l .counts .routes ≡ 0) ⊎ ((s : List ℕ) × Bytes s × (decode s ≡ accepted l)) ∥₁
+
+-- all of it
+pub record Valid (l : Layout) : Type 0 where
+  pub few : Few (l .counts)
+  pub bare : Bare l
+  pub within : Within l
+  pub apart : Apart l
+  pub levers : LeversServed l
+  pub signals : SignalsServed l
+  pub sound : Sound l

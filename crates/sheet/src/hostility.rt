@@ -40,6 +40,30 @@ fn oppose(layout: &Layout, r: usize, q: usize) -> bool
     a.lever == b.lever || a.signal == b.signal || (a.named[q] | b.named[r]) || clash(a, b, layout.counts.points)
 }
 
+fn are_hostile(layout: &Layout, r: usize, q: usize) -> bool
+    requires { ⌜ now layout .counts .points ≤ 32 ⌝ ∗ ⌜ now layout .counts .routes ≤ 32 ⌝ }
+    ensures value { λ x. ⌜ x ≡ areHostile (now (layout .entry)) r q ⌝ }
+    ensures symmetric { λ x. ⌜ x ≡ areHostile (now (layout .entry)) q r ⌝ }
+    ensures other { λ x. ⌜ (r ≡ q → x ≡ false) ⌝ }
+{
+    let routes = layout.counts.routes;
+    if r >= routes || q >= routes || r == q {
+        return false;
+    }
+    oppose(layout, r, q)
+}
+
+fn hostile_members(layout: &Layout, r: usize) -> [bool; 32]
+    requires { ⌜ now layout .counts .points ≤ 32 ⌝ ∗ ⌜ now layout .counts .routes ≤ 32 ⌝ }
+    ensures { λ x. ⌜ x ≡ hostilesOf (now (layout .entry)) r ⌝ }
+{
+    let mut members = [false; 32];
+    for q in 0..32 {
+        members[q] = are_hostile(layout, r, q);
+    }
+    members
+}
+
 impl Plan {
     /// Whether two routes are hostile: the same both ways, and never of a route with itself or with a number that the plan lacks.
     pub fn hostile(&self, r: usize, q: usize) -> bool
@@ -47,21 +71,13 @@ impl Plan {
         ensures symmetric { λ x. ⌜ x ≡ areHostile (now (self .entry) .layout) q r ⌝ }
         ensures other { λ x. ⌜ (r ≡ q → x ≡ false) ⌝ }
     {
-        let routes = self.layout.counts.routes;
-        if r >= routes || q >= routes || r == q {
-            return false;
-        }
-        oppose(&self.layout, r, q)
+        are_hostile(&self.layout, r, q)
     }
 
     /// All routes that are hostile to a route.
     pub fn hostile_set(&self, r: usize) -> RouteSet
         ensures { λ x. ⌜ x .members ≡ hostilesOf (now (self .entry) .layout) r ⌝ }
     {
-        let mut members = [false; 32];
-        for q in 0..32 {
-            members[q] = self.hostile(r, q);
-        }
-        RouteSet { members }
+        RouteSet { members: hostile_members(&self.layout, r) }
     }
 }

@@ -1,6 +1,5 @@
 //! A plan: blank, or one that has passed every rule of the sheet.
-ghost use mathlib.Core.Path.{_≡_};
-ghost use Rattle.sheet.specs.Valid.{Apart, Few, LeversServed, SignalsServed, Sound, Within};
+ghost use Rattle.sheet.specs.Valid.{Apart, Bare, Few, LeversServed, SignalsServed, Sound, Within};
 use crate::layout::Layout;
 
 /// Only a sheet makes one, or `Plan::blank`; the ghost fields say what every plan keeps.
@@ -8,7 +7,7 @@ use crate::layout::Layout;
 pub struct Plan {
     pub(crate) layout: Layout,
     ghost few: { Few (layout .counts) },
-    ghost bare: { (layout .counts .routes ≡ 0 → layout .counts .points ≡ 0) },
+    ghost bare: { Bare layout },
     ghost within: { Within layout },
     ghost apart: { Apart layout },
     ghost levers_served: { LeversServed layout },

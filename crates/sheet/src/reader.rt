@@ -3,10 +3,10 @@ ghost use Prim.Native.Nat.{_+_, _<_, _≤_};
 ghost use mathlib.Core.Path.{_≡_};
 ghost use Rattle.std.specs.Vec.{made};
 ghost use Rattle.sheet.specs.Bits.{told};
-ghost use Rattle.sheet.specs.Decode.{decode};
+ghost use Rattle.sheet.specs.Decode.{decode, drawn};
 ghost use Rattle.sheet.specs.Fields.{countsAt, demandsAt, layoutAt, namedAt, routeAt, routesAt};
 ghost use Rattle.sheet.specs.Plans.{answered};
-ghost use Rattle.sheet.specs.Valid.{Few, Within, WithinTo};
+ghost use Rattle.sheet.specs.Valid.{Few, Valid, Within, WithinTo};
 use crate::bits::BitReader;
 use crate::fault::SheetFault;
 use crate::layout::Counts;
@@ -95,12 +95,23 @@ fn layout(bits: &mut BitReader) -> Result<Layout, SheetFault>
     Ok(Layout { counts, routes })
 }
 
-/// The plan that a sheet says, or its first fault.
-pub fn read(sheet: &[u8]) -> Result<Plan, SheetFault>
-    ensures { λ x. ⌜ answered x ≡ decode (now (sheet .entry)) ⌝ }
+// What a sheet says once it has passed the rules.
+fn valid_layout(sheet: &[u8]) -> Result<Layout, SheetFault>
+    ensures outcome { λ x. ⌜ drawn x ≡ decode (now (sheet .entry)) ⌝ }
+    ensures valid { λ x. ⌜ made x Valid ⌝ }
 {
     let mut bits = BitReader::new(sheet);
     let layout = take!(layout(&mut bits));
     take!(judge(&layout));
-    Ok(Plan { layout })
+    Ok(layout)
+}
+
+/// The plan that a sheet says, or its first fault.
+pub fn read(sheet: &[u8]) -> Result<Plan, SheetFault>
+    ensures { λ x. ⌜ answered x ≡ decode (now (sheet .entry)) ⌝ }
+{
+    match valid_layout(sheet) {
+        Ok(layout) => Ok(Plan { layout }),
+        Err(fault) => Err(fault),
+    }
 }

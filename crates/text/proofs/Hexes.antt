@@ -31,8 +31,9 @@ one-more bs b None = refl
 one-more bs b (Some more) = ap (λ (ys : List ℕ). Some ys) (sym (append-assoc bs (b ∷ []) more))
 
 module _ (bs xs : List ℕ) (at : ℕ) (h : at + 2 ≤ length xs) where
-  pub pair-more : (b : ℕ) → Some b ≡ byteOf (getD xs at 0) (getD xs (at + 1) 0) → after (bs ++ b ∷ []) (bytesOf (drop (at + 2) xs)) ≡ after bs (bytesOf (drop at xs))
-  pair-more b e = let t = two xs at h in let m = one-more bs b (bytesOf (drop (at + 2) xs)) in cc
+  pub pair-more : (b : ℕ) (now : List ℕ) → Some b ≡ byteOf (getD xs at 0) (getD xs (at + 1) 0) → now ≡ bs ++ b ∷ []
+      → after now (bytesOf (drop (at + 2) xs)) ≡ after bs (bytesOf (drop at xs))
+  pair-more b now e n = let t = two xs at h in let m = one-more bs b (bytesOf (drop (at + 2) xs)) in cc
 
   pub pair-bad : None ≡ byteOf (getD xs at 0) (getD xs (at + 1) 0) → None ≡ after bs (bytesOf (drop at xs))
   pair-bad e = let t = two xs at h in cc

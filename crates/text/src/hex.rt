@@ -28,8 +28,8 @@ fn byte(high: u8, low: u8) -> Option<u8>
     }
 }
 
-/// The bytes that a text spells, or none where it is not hex.
-pub fn unhex(heap: Global, text: &[u8]) -> Result<Option<Vec<u8>>, AllocError>
+// The bytes that a text spells, or none where it is not hex.
+pub(crate) fn unhex(heap: Global, text: &[u8]) -> Result<Option<Vec<u8>>, AllocError>
     ensures { λ r. ⌜ made r (λ o. mapped vec-items o ≡ bytesOf (now (text .entry))) ⌝ }
 {
     let mut bytes = Vec::new(heap);

@@ -1,4 +1,5 @@
-//! Text work that the programs share: lines, and bytes in hex.
+//! Text work that the programs share: a line of bytes in hex.
 
-pub mod hex;
-pub mod lines;
+mod hex;
+pub mod input;
+mod lines;

@@ -4,8 +4,8 @@ ghost use lib.ListN.{drop, length};
 ghost use mathlib.Core.Path.{_≡_};
 ghost use Rattle.text.specs.Lines.{firstLine, lengthOfLine};
 
-/// Where the line that begins at `from` ends: at a newline, or with the text.
-pub fn line_end(text: &[u8], from: usize) -> usize
+// Where the line that begins at `from` ends: at a newline, or with the text.
+fn line_end(text: &[u8], from: usize) -> usize
     ensures value { λ r. ⌜ r ≡ from + lengthOfLine (drop from (now (text .entry))) ⌝ }
     ensures within { λ r. ⌜ (from ≤ length (now (text .entry)) → r ≤ length (now (text .entry))) ⌝ }
 {
@@ -16,8 +16,8 @@ pub fn line_end(text: &[u8], from: usize) -> usize
     at
 }
 
-/// The text up to its first newline.
-pub fn first_line(text: &[u8]) -> &[u8]
+// The text up to its first newline.
+pub(crate) fn first_line(text: &[u8]) -> &[u8]
     ensures { λ r. ⌜ now r ≡ firstLine (now (text .entry)) ⌝ }
 {
     let end = line_end(text, 0);

@@ -1,25 +1,4 @@
-use mathlib.Core.Logic.{inr}
-use mathlib.Core.Path.{_≡_, sym, _∙_}
-use native.Mathlib.Omega.{arith}
-use Rattle.sheet.specs.Decode.{accepted, ruled, decode}
-use Rattle.sheet.proofs.Reading.{decode-done, decode-fault}
-use Rattle.sheet.proofs.Validity.{passed, apart, levers-served, signals-served}
 use Rattle.sheet.proofs.reader.read.Needs as need
 
-pub returns-in-Err : need.returns-in-Err
-returns-in-Err c = decode-fault _ _ _ (c .new-bits .ensures .sheet) (c .new-bits .ensures .start) _ _ (c .in-Err .ensures tt .value)
-
-pub returns-in-Err-judge : need.returns-in-Err-judge
-returns-in-Err-judge c =
-    c .in-Err-judge .ensures tt ∙ decode-done _ _ _ (c .new-bits .ensures .sheet) (c .new-bits .ensures .start) (c .in-Ok .value) _ _ (c .in-Ok .ensures tt .value)
-
 pub ghost-result : need.ghost-result
-ghost-result c =
-    let w = c .in-Ok .ensures tt .within in
-    let p = passed (c .in-Ok .value) (sym (c .in-Ok-judge .ensures tt)) in
-    let e = c .in-Ok-judge .ensures tt ∙ decode-done _ _ _ (c .new-bits .ensures .sheet) (c .new-bits .ensures .start) (c .in-Ok .value) _ _ (c .in-Ok .ensures tt .value) in
-    (w .0, ((λ e. absurd (omega (arith, w .1))), (w .2, (apart _ p, (levers-served _ p, (signals-served _ p, (∣ inr (c .args .sheet .now, (λ i. omega (arith, c .typed .sheet i)), sym e) ∣₁, tt)))))))
-
-pub returns : need.returns
-returns c =
-    c .in-Ok-judge .ensures tt ∙ decode-done _ _ _ (c .new-bits .ensures .sheet) (c .new-bits .ensures .start) (c .in-Ok .value) _ _ (c .in-Ok .ensures tt .value)
+ghost-result c = let v = c .in-Ok .ensures tt .valid in (v .few, (v .bare, (v .within, (v .apart, (v .levers, (v .signals, (v .sound, tt)))))))

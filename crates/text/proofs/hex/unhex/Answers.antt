@@ -21,9 +21,7 @@ returns-in-rest c =
 pub loop-at-again : need.loop-at-again
 loop-at-again c =
     let k : c .loop-at .at + 2 ≤ length (c .args .text .now) = omega arith in
-    ( k
-    , ap (λ bs. after bs (bytesOf (drop (c .loop-at .at + 2) (c .args .text .now)))) (c .in-Continue-push .ensures tt .items)
-        ∙ (pair-more (vec-items (c .loop-at .bytes)) (c .args .text .now) (c .loop-at .at) k (c .in-Some .byte) (c .in-Some .ensures tt) ∙ c .loop-at .inv .1) )
+    (k, pair-more (vec-items (c .loop-at .bytes)) (c .args .text .now) (c .loop-at .at) k (c .in-Some .byte) _ (c .in-Some .ensures tt) (c .in-Continue-push .ensures tt .items) ∙ c .loop-at .inv .1)
 
 pub returns : need.returns
 returns c =

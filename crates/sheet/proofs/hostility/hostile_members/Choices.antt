@@ -3,7 +3,7 @@ use lib.ListN.{getD, length}
 use mathlib.Core.Bool.{false}
 use mathlib.Core.Path.{_≡_}
 use Rattle.sheet.specs.Hostility.{areHostile}
-use Rattle.sheet.proofs.plan.Plan.hostile_set.Given as given
+use Rattle.sheet.proofs.hostility.hostile_members.Given as given
 
 abbrev pub Inv-loop-q : given.InvT-loop-q
-Inv-loop-q l = (length (l .members) ≡ 32) × ((k : ℕ) → k < l .q → getD (l .members) k false ≡ areHostile (l .self .layout) (l .r) k)
+Inv-loop-q l = (length (l .members) ≡ 32) × ((k : ℕ) → k < l .q → getD (l .members) k false ≡ areHostile (l .layout) (l .r) k)
