@@ -2,7 +2,9 @@
 use Prim.Native.Nat.{ℕ}
 use mathlib.Core.List.{List}
 use mathlib.Core.Path.{_≡_, ap, _∙_}
+use Rattle.sheet.specs.Faults.{numberOf}
 use Rattle.sheet.specs.Bits.{done, fault}
+use Rattle.sheet.specs.declared.fault.Flaw.{Flaw}
 use Rattle.sheet.specs.Fields.{layoutAt}
 use Rattle.sheet.specs.Decode.{refused, ruled, settled, decode}
 use Rattle.sheet.specs.declared.layout.Layout.{Layout}
@@ -11,5 +13,5 @@ module _ (s t : List ℕ) (i : ℕ) (e : t ≡ s) (z : i ≡ 0) where
   pub decode-done : (l : Layout) (u : List ℕ) (j : ℕ) → done l u j ≡ layoutAt t i → ruled l ≡ decode s
   decode-done l u j h = ap settled h ∙ (cc)
 
-  pub decode-fault : (n p : ℕ) → fault n p ≡ layoutAt t i → refused n p ≡ decode s
-  decode-fault n p h = ap settled h ∙ (cc)
+  pub decode-fault : (w : Flaw) (p : ℕ) → fault w p ≡ layoutAt t i → refused (numberOf w) p ≡ decode s
+  decode-fault w p h = ap settled h ∙ (cc)

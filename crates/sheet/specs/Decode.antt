@@ -34,7 +34,7 @@ ruled l =
 
 abbrev pub settled : Read Layout → Outcome
 settled (done l s i) = ruled l
-settled (fault n p) = refused n p
+settled (fault w p) = refused (numberOf w) p
 
 -- what a sheet of bytes says
 abbrev pub decode : List ℕ → Outcome

@@ -4,7 +4,6 @@ use lib.Dec.{leb, ltb, eqb}
 use lib.ListN.{length, set, replicate}
 use mathlib.Core.Bool.{Bool, true, false, cond, _&&_}
 use mathlib.Core.List.{List}
-use Rattle.sheet.specs.Faults.{numberOf}
 use Rattle.sheet.specs.Bits.{Read, done, fault, next, bitOf, fieldAt}
 use Rattle.sheet.specs.Layouts.{noRoute}
 use Rattle.sheet.specs.declared.fault.Flaw.the-variants.{WrongEdition, CountOutside, NumberTooHigh, BadPointCode, BadFilling}
@@ -19,15 +18,15 @@ use Rattle.sheet.specs.declared.layout.Counts.{Counts}
 use Rattle.sheet.specs.declared.layout.Layout.{Layout}
 
 abbrev pub editionAt : List ℕ → ℕ → Read (Unit {0})
-editionAt s i = next (fieldAt s i 4) (λ e s j. cond (eqb e 1) (done tt s j) (fault (numberOf WrongEdition) i))
+editionAt s i = next (fieldAt s i 4) (λ e s j. cond (eqb e 1) (done tt s j) (fault WrongEdition i))
 
 -- a count of k bits, from least to most
 abbrev pub countAt : List ℕ → ℕ → ℕ → ℕ → ℕ → Read ℕ
-countAt s i k least most = next (fieldAt s i k) (λ n s j. cond (leb least n && leb n most) (done n s j) (fault (numberOf CountOutside) i))
+countAt s i k least most = next (fieldAt s i k) (λ n s j. cond (leb least n && leb n most) (done n s j) (fault CountOutside i))
 
 -- the number of a lever or a signal, of k bits, below limit
 abbrev pub numberAt : List ℕ → ℕ → ℕ → ℕ → Read ℕ
-numberAt s i k limit = next (fieldAt s i k) (λ n s j. cond (ltb n limit) (done n s j) (fault (numberOf NumberTooHigh) i))
+numberAt s i k limit = next (fieldAt s i k) (λ n s j. cond (ltb n limit) (done n s j) (fault NumberTooHigh i))
 
 abbrev pub sideAt : List ℕ → ℕ → Read Side
 sideAt s i = next (fieldAt s i 1) (λ c s i. done (cond (eqb c 0) Up Down) s i)
@@ -37,7 +36,7 @@ releaseAt s i = next (fieldAt s i 1) (λ c s i. done (cond (eqb c 0) Station Tra
 
 abbrev pub demandAt : List ℕ → ℕ → Read Demand
 demandAt s i = next (fieldAt s i 2) (λ c s j.
-    cond (eqb c 0) (done Nothing s j) (cond (eqb c 1) (done Plus s j) (cond (eqb c 2) (done Minus s j) (fault (numberOf BadPointCode) i))))
+    cond (eqb c 0) (done Nothing s j) (cond (eqb c 1) (done Plus s j) (cond (eqb c 2) (done Minus s j) (fault BadPointCode i))))
 
 abbrev pub flagAt : List ℕ → ℕ → Read Bool
 flagAt s i = next (fieldAt s i 1) (λ c s i. done (eqb c 1) s i)
@@ -80,8 +79,8 @@ routesAt c s i = fill (routeAt c) s i (c .routes) 0 (replicate 32 noRoute)
 
 -- m filling bits from bit i on are zeros, and no byte follows them
 abbrev pub zerosAt : List ℕ → ℕ → ℕ → Read (Unit {0})
-zerosAt s i zero = cond (ltb (i / 8) (length s)) (fault (numberOf BadFilling) i) (done tt s i)
-zerosAt s i (suc m) = cond (eqb (bitOf s i) 0) (zerosAt s (i + 1) m) (fault (numberOf BadFilling) i)
+zerosAt s i zero = cond (ltb (i / 8) (length s)) (fault BadFilling i) (done tt s i)
+zerosAt s i (suc m) = cond (eqb (bitOf s i) 0) (zerosAt s (i + 1) m) (fault BadFilling i)
 
 -- zeros up to a whole byte
 abbrev pub fillingAt : List ℕ → ℕ → Read (Unit {0})
