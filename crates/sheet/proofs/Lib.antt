@@ -4,3 +4,4 @@ pub mod Scans
 pub mod Validity
 pub mod Opponents
 pub mod Reading
+pub mod Puts

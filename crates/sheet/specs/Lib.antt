@@ -1,5 +1,5 @@
 -- In reading order: the numbers of the faults, bits, the fields of a sheet, the rules of a whole plan, what a sheet says
--- (decode), which routes are hostile, what holds of every plan, and the worked sheet.
+-- (decode), the sheet of a plan (encode) and writing it, which routes are hostile, what holds of every plan, and the worked sheet.
 pub mod Scan
 pub mod Faults
 pub mod Bits
@@ -8,6 +8,8 @@ pub mod Fields
 pub mod RouteSets
 pub mod Rules
 pub mod Decode
+pub mod Encode
+pub mod Writing
 pub mod Hostility
 pub mod Valid
 pub mod Plans

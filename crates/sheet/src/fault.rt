@@ -1,8 +1,8 @@
-//! Why a sheet is refused, and where.
+//! Why a sheet or a writing is refused, and where.
 ghost use mathlib.Core.Path.{_≡_};
 ghost use Rattle.sheet.specs.Faults.{numberOf};
 
-/// What is wrong with a sheet.
+/// What is wrong with a sheet, or keeps one from being written.
 #[derive(Clone, Copy)]
 pub enum Flaw {
     /// The sheet ends inside a field.
@@ -23,6 +23,10 @@ pub enum Flaw {
     IdleLever,
     /// A signal has no route.
     IdleSignal,
+    /// A blank plan has no sheet.
+    BlankPlan,
+    /// The buffer is too short for the sheet.
+    NoRoom,
 }
 
 impl Flaw {
@@ -40,11 +44,13 @@ impl Flaw {
             Flaw::SharedLever => 7,
             Flaw::IdleLever => 8,
             Flaw::IdleSignal => 9,
+            Flaw::BlankPlan => 11,
+            Flaw::NoRoom => 37,
         }
     }
 }
 
-/// A sheet's fault: what is wrong, and at which bit, route, lever or signal.
+/// A sheet's fault: what is wrong, and at which bit, route, lever or signal; at place 0 where a writing is refused.
 #[derive(Clone, Copy)]
 pub struct SheetFault {
     pub flaw: Flaw,

@@ -10,6 +10,7 @@ macro_rules! take {
     };
 }
 
+mod bit_writer;
 mod bits;
 pub mod fault;
 pub mod hostility;
