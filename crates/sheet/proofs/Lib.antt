@@ -5,3 +5,8 @@ pub mod Validity
 pub mod Opponents
 pub mod Reading
 pub mod Puts
+pub mod Packing
+pub mod Sheets
+pub mod Took
+pub mod Fits
+pub mod Round

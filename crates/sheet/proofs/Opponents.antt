@@ -65,11 +65,11 @@ unfolding areHostile
 hostile-not l r q h =
     ⊎-elim
     (λ a. ⊎-elim
-      (λ b. ⊎-elim
-        (λ e. let z = eq-eqb r q e in and-right (ltb r (l .counts .routes) && ltb q (l .counts .routes)) (not (eqb r q) && opponents l r q) (rw z))
-        (λ ne. absurd (h a b ne))
-        (cases-eq r q))
-      (λ b. let y = le-ltb q (l .counts .routes) b in and-left (ltb r (l .counts .routes) && ltb q (l .counts .routes)) (not (eqb r q) && opponents l r q) (and-right _ _ y))
-      (cases-lt q (l .counts .routes)))
+    (λ b. ⊎-elim
+    (λ e. let z = eq-eqb r q e in and-right (ltb r (l .counts .routes) && ltb q (l .counts .routes)) (not (eqb r q) && opponents l r q) (rw z))
+    (λ ne. absurd (h a b ne))
+    (cases-eq r q))
+    (λ b. let y = le-ltb q (l .counts .routes) b in and-left (ltb r (l .counts .routes) && ltb q (l .counts .routes)) (not (eqb r q) && opponents l r q) (and-right _ _ y))
+    (cases-lt q (l .counts .routes)))
     (λ a. let x = le-ltb r (l .counts .routes) a in rw x)
     (cases-lt r (l .counts .routes))

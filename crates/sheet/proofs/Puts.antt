@@ -31,7 +31,8 @@ wrote-append {o} {o′} {o″} {n} {n′} {n″} {xs} {ys} a b =
     record {
       bytes = b .bytes ∙ (cc (a .bytes, a .after));
       after = omega (arith, length-append xs ys);
-      size = b .size ∙ a .size }
+      size = b .size ∙ a .size;
+    }
 
 -- a writing on its way: from o₀ and n₀ it has come to o and n, and of all its bits the rest is to be written
 pub record Going (o₀ : List ℕ) (n₀ : ℕ) (o : List ℕ) (n : ℕ) (rest all : List ℕ) : Type 0 where
@@ -45,7 +46,8 @@ going-more {o₀} {o} {o′} {n₀} {n} {n′} {xs} {rest} {all} g w =
     record {
       bytes = (cc (g .bytes, w .bytes, w .after));
       after = omega (arith, length-append xs rest);
-      size = w .size ∙ g .size }
+      size = w .size ∙ g .size;
+    }
 
 pub each-more : (f : ℕ → List ℕ) (n k : ℕ) → k < n → each f (n - k) k ≡ f k ++ each f (n - (k + 1)) (k + 1)
 each-more f n k h = let s : n - k ≡ suc (n - (k + 1)) = omega arith in rw s

@@ -37,7 +37,7 @@ within-more k c rs x l old new r lt =
     (cases-eq r k)
 
 -- an accepted layout breaks no rule
-no-refusal : (k : PlanRule) (o : Option ℕ) (x : Outcome) (l : Layout) → refuse k o x ≡ accepted l → (o ≡ None) × (x ≡ accepted l)
+pub no-refusal : (k : PlanRule) (o : Option ℕ) (x : Outcome) (l : Layout) → refuse k o x ≡ accepted l → (o ≡ None) × (x ≡ accepted l)
 no-refusal k (Some p) x l h = let z : _≡_ {A = ℕ} 0 1 = cc in absurd (omega arith)
 no-refusal k None x l h = (refl, h)
 
@@ -74,8 +74,8 @@ pub apart : (l : Layout) → Passed l → Apart l
 apart l p r q h =
     ⊎-elim (λ e. e)
     (⊎-elim
-      (λ lt. absurd (never-lower l p r q lt (h .1) (h .2) (h .3)))
-      (λ gt. absurd (never-lower l p q r gt (h .0) (sym (h .2)) (sym (h .3)))))
+    (λ lt. absurd (never-lower l p r q lt (h .1) (h .2) (h .3)))
+    (λ gt. absurd (never-lower l p q r gt (h .0) (sym (h .2)) (sym (h .3)))))
     (cases-order r q)
 
 pub levers-served : (l : Layout) → Passed l → LeversServed l

@@ -10,10 +10,12 @@ use lib.Pow.{pow-mono}
 use Rattle.std.proofs.shelf.Bits.{mod-below}
 use Rattle.sheet.specs.Bits.{bitOf, valueOf}
 
+pub bit-lt : (s : List ℕ) (i : ℕ) → bitOf s i < 2
+bit-lt s i = mod-below (getD s (i / 8) 0 / 2 ^ (7 - i % 8)) 2 (omega arith)
+
 pub value-lt : (s : List ℕ) (i k : ℕ) → valueOf s i k < 2 ^ k
 value-lt s i zero = omega arith
-value-lt s i (suc k) =
-    omega (arith, value-lt s i k, mod-below (getD s ((i + k) / 8) 0 / 2 ^ (7 - (i + k) % 8)) 2 (omega arith), two-pow-succ k)
+value-lt s i (suc k) = omega (arith, value-lt s i k, bit-lt s (i + k), two-pow-succ k)
 
 pub value-more : (s : List ℕ) (i k : ℕ) → valueOf s i (k + 1) ≡ valueOf s i k * 2 + bitOf s (i + k)
 value-more s i k = rw add-one

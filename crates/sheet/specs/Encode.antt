@@ -40,9 +40,12 @@ abbrev pub each : (ℕ → List ℕ) → ℕ → ℕ → List ℕ
 each f zero k = []
 each f (suc m) k = f k ++ each f m (k + 1)
 
+abbrev pub countsBits : Counts → List ℕ
+countsBits c = bitsOf 6 (c .points) ++ (bitsOf 6 (c .signals) ++ (bitsOf 5 (c .levers) ++ bitsOf 6 (c .routes)))
+
 -- edition 1 and the four counts
 abbrev pub headBits : Counts → List ℕ
-headBits c = bitsOf 4 1 ++ (bitsOf 6 (c .points) ++ (bitsOf 6 (c .signals) ++ (bitsOf 5 (c .levers) ++ bitsOf 6 (c .routes))))
+headBits c = bitsOf 4 1 ++ countsBits c
 
 abbrev pub demandBits : List Demand → ℕ → List ℕ
 demandBits row p = bitsOf 2 (demandCode (getD row p Nothing))

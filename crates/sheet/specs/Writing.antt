@@ -23,8 +23,8 @@ abbrev pub writing : Layout → List ℕ → Written
 writing l buffer =
     cond (eqb (l .counts .routes) 0) (withheld (numberOf BlankPlan) 0 buffer)
     (cond (leb (length (sheetOf l)) (length buffer))
-      (wrote (length (sheetOf l)) (sheetOf l ++ drop (length (sheetOf l)) buffer))
-      (withheld (numberOf NoRoom) 0 buffer))
+    (wrote (length (sheetOf l)) (sheetOf l ++ drop (length (sheetOf l)) buffer))
+    (withheld (numberOf NoRoom) 0 buffer))
 
 -- what the writer answers, with the buffer that it leaves
 abbrev pub written : Result ℕ SheetFault → List ℕ → Written

@@ -29,7 +29,11 @@ impl<'a> BitReader<'a> {
     fn bit(&self, i: usize) -> u8
         ensures { λ b. ⌜ b ≡ bitOf (now (now (self .entry) .bytes)) i ⌝ }
     {
-        if i / 8 < self.bytes.len() { (self.bytes[i / 8] >> (7 - i % 8)) % 2 } else { 0 }
+        if i / 8 < self.bytes.len() {
+            (self.bytes[i / 8] >> (7 - i % 8)) % 2
+        } else {
+            0
+        }
     }
 
     // The next `width` bits as a number.
@@ -40,7 +44,10 @@ impl<'a> BitReader<'a> {
     {
         let start = self.at;
         if (start + width - 1) / 8 >= self.bytes.len() {
-            return Err(SheetFault { flaw: Flaw::EndsInside, place: start });
+            return Err(SheetFault {
+                flaw: Flaw::EndsInside,
+                place: start,
+            });
         }
         let mut value: usize = 0;
         for k in 0..width {
@@ -57,12 +64,20 @@ impl<'a> BitReader<'a> {
     {
         let place = self.at;
         if take!(self.field(4)) != 1 {
-            return Err(SheetFault { flaw: Flaw::WrongEdition, place });
+            return Err(SheetFault {
+                flaw: Flaw::WrongEdition,
+                place,
+            });
         }
         Ok(())
     }
 
-    pub(crate) fn count(&mut self, width: usize, least: usize, most: usize) -> Result<usize, SheetFault>
+    pub(crate) fn count(
+        &mut self,
+        width: usize,
+        least: usize,
+        most: usize,
+    ) -> Result<usize, SheetFault>
         requires { ⌜ 0 < width ⌝ ∗ ⌜ width ≤ 8 ⌝ ∗ ⌜ now self .at ≤ 4000 ⌝ }
         ensures value { λ x. ⌜ told x (now (now (self .exit) .bytes)) (now (self .exit) .at) ≡ countAt (now (now (self .entry) .bytes)) (now (self .entry) .at) width least most ⌝ }
         ensures within { λ x. ⌜ made x (λ n. (least ≤ n) × (n ≤ most)) ⌝ }
@@ -71,7 +86,10 @@ impl<'a> BitReader<'a> {
         let place = self.at;
         let n = take!(self.field(width));
         if n < least || n > most {
-            return Err(SheetFault { flaw: Flaw::CountOutside, place });
+            return Err(SheetFault {
+                flaw: Flaw::CountOutside,
+                place,
+            });
         }
         Ok(n)
     }
@@ -86,7 +104,10 @@ impl<'a> BitReader<'a> {
         let place = self.at;
         let n = take!(self.field(width));
         if n >= limit {
-            return Err(SheetFault { flaw: Flaw::NumberTooHigh, place });
+            return Err(SheetFault {
+                flaw: Flaw::NumberTooHigh,
+                place,
+            });
         }
         Ok(n)
     }
@@ -106,7 +127,11 @@ impl<'a> BitReader<'a> {
         ensures near { λ _. ⌜ now (self .exit) .at ≤ now (self .entry) .at + 1 ⌝ }
     {
         let code = take!(self.field(1));
-        Ok(if code == 0 { Release::Station } else { Release::Train })
+        Ok(if code == 0 {
+            Release::Station
+        } else {
+            Release::Train
+        })
     }
 
     pub(crate) fn demand(&mut self) -> Result<Demand, SheetFault>
@@ -119,7 +144,10 @@ impl<'a> BitReader<'a> {
             0 => Ok(Demand::Nothing),
             1 => Ok(Demand::Plus),
             2 => Ok(Demand::Minus),
-            _ => Err(SheetFault { flaw: Flaw::BadPointCode, place }),
+            _ => Err(SheetFault {
+                flaw: Flaw::BadPointCode,
+                place,
+            }),
         }
     }
 
@@ -140,12 +168,18 @@ impl<'a> BitReader<'a> {
         let end = (self.at + 7) / 8 * 8;
         for i in self.at..end {
             if self.bit(i) != 0 {
-                return Err(SheetFault { flaw: Flaw::BadFilling, place: i });
+                return Err(SheetFault {
+                    flaw: Flaw::BadFilling,
+                    place: i,
+                });
             }
         }
         self.at = end;
         if end / 8 < self.bytes.len() {
-            return Err(SheetFault { flaw: Flaw::BadFilling, place: end });
+            return Err(SheetFault {
+                flaw: Flaw::BadFilling,
+                place: end,
+            });
         }
         Ok(())
     }

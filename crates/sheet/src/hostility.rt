@@ -37,7 +37,10 @@ fn oppose(layout: &Layout, r: usize, q: usize) -> bool
 {
     let a = &layout.routes[r];
     let b = &layout.routes[q];
-    a.lever == b.lever || a.signal == b.signal || (a.named[q] | b.named[r]) || clash(a, b, layout.counts.points)
+    a.lever == b.lever
+        || a.signal == b.signal
+        || (a.named[q] | b.named[r])
+        || clash(a, b, layout.counts.points)
 }
 
 fn are_hostile(layout: &Layout, r: usize, q: usize) -> bool
@@ -78,6 +81,8 @@ impl Plan {
     pub fn hostile_set(&self, r: usize) -> RouteSet
         ensures { λ x. ⌜ x .members ≡ hostilesOf (now (self .entry) .layout) r ⌝ }
     {
-        RouteSet { members: hostile_members(&self.layout, r) }
+        RouteSet {
+            members: hostile_members(&self.layout, r),
+        }
     }
 }

@@ -21,3 +21,4 @@ pub mod reader;
 pub mod route_set;
 mod rules;
 pub mod worked;
+pub mod writer;

@@ -13,7 +13,17 @@ impl Plan {
     pub fn blank() -> Plan
         ensures { λ p. ⌜ p .layout ≡ blankLayout ⌝ }
     {
-        Plan { layout: Layout { counts: Counts { points: 0, signals: 0, levers: 0, routes: 0 }, routes: [NO_ROUTE; 32] } }
+        Plan {
+            layout: Layout {
+                counts: Counts {
+                    points: 0,
+                    signals: 0,
+                    levers: 0,
+                    routes: 0,
+                },
+                routes: [NO_ROUTE; 32],
+            },
+        }
     }
 
     /// How many there are of each thing.
@@ -27,6 +37,10 @@ impl Plan {
     pub fn route(&self, r: usize) -> Option<Route>
         ensures { λ x. ⌜ x ≡ routeGiven (now (self .entry) .layout) r ⌝ }
     {
-        if r < self.layout.counts.routes { Some(self.layout.routes[r]) } else { None }
+        if r < self.layout.counts.routes {
+            Some(self.layout.routes[r])
+        } else {
+            None
+        }
     }
 }

@@ -4,6 +4,7 @@ ghost use mathlib.Core.Path.{_≡_};
 ghost use Rattle.std.specs.Vec.{made};
 ghost use Rattle.sheet.specs.Bits.{told};
 ghost use Rattle.sheet.specs.Decode.{decode, drawn};
+ghost use Rattle.sheet.specs.Encode.{sheetOf};
 ghost use Rattle.sheet.specs.Fields.{countsAt, demandsAt, layoutAt, namedAt, routeAt, routesAt};
 ghost use Rattle.sheet.specs.Plans.{answered};
 ghost use Rattle.sheet.specs.Valid.{Few, Valid, Within, WithinTo};
@@ -27,7 +28,12 @@ fn counts(bits: &mut BitReader) -> Result<Counts, SheetFault>
     let signals = take!(bits.count(6, 1, 32));
     let levers = take!(bits.count(5, 1, 16));
     let routes = take!(bits.count(6, 1, 32));
-    Ok(Counts { points, signals, levers, routes })
+    Ok(Counts {
+        points,
+        signals,
+        levers,
+        routes,
+    })
 }
 
 fn demands(bits: &mut BitReader, points: usize) -> Result<[Demand; 32], SheetFault>
@@ -67,7 +73,14 @@ fn route(bits: &mut BitReader, counts: Counts, r: usize) -> Result<Route, SheetF
     let release = take!(bits.release());
     let demands = take!(demands(bits, counts.points));
     let named = take!(named(bits, counts.routes, r));
-    Ok(Route { lever, side, signal, release, demands, named })
+    Ok(Route {
+        lever,
+        side,
+        signal,
+        release,
+        demands,
+        named,
+    })
 }
 
 fn routes(bits: &mut BitReader, counts: Counts) -> Result<[Route; 32], SheetFault>
@@ -99,6 +112,7 @@ fn layout(bits: &mut BitReader) -> Result<Layout, SheetFault>
 fn valid_layout(sheet: &[u8]) -> Result<Layout, SheetFault>
     ensures outcome { λ x. ⌜ drawn x ≡ decode (now (sheet .entry)) ⌝ }
     ensures valid { λ x. ⌜ made x Valid ⌝ }
+    ensures again { λ x. ⌜ made x (λ l. sheetOf l ≡ now (sheet .entry)) ⌝ }
 {
     let mut bits = BitReader::new(sheet);
     let layout = take!(layout(&mut bits));
@@ -106,9 +120,11 @@ fn valid_layout(sheet: &[u8]) -> Result<Layout, SheetFault>
     Ok(layout)
 }
 
-/// The plan that a sheet says, or its first fault.
+/// The plan that a sheet says, or its first fault; the sheet of that plan is this sheet, bit for bit.
 pub fn read(sheet: &[u8]) -> Result<Plan, SheetFault>
-    ensures { λ x. ⌜ answered x ≡ decode (now (sheet .entry)) ⌝ }
+    ensures outcome { λ x. ⌜ answered x ≡ decode (now (sheet .entry)) ⌝ }
+    ensures again { λ x. ⌜ made x (λ p. sheetOf (p .layout) ≡ now (sheet .entry)) ⌝ }
+    ensures kept { λ _. ⌜ now (sheet .exit) ≡ now (sheet .entry) ⌝ }
 {
     match valid_layout(sheet) {
         Ok(layout) => Ok(Plan { layout }),

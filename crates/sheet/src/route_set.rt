@@ -14,13 +14,19 @@ impl RouteSet {
     pub fn empty() -> Self
         ensures { λ s. ⌜ s .members ≡ replicate 32 false ⌝ }
     {
-        RouteSet { members: [false; 32] }
+        RouteSet {
+            members: [false; 32],
+        }
     }
 
     pub fn has(&self, route: usize) -> bool
         ensures { λ b. ⌜ b ≡ member (now (self .entry) .members) route ⌝ }
     {
-        if route < 32 { self.members[route] } else { false }
+        if route < 32 {
+            self.members[route]
+        } else {
+            false
+        }
     }
 
     /// Adds a route; a number past the last is left out.

@@ -69,7 +69,10 @@ impl PlanRule {
         ensures { λ x. ⌜ judged (now (layout .entry)) x ≡ refuse self (lowestBroken (now (layout .entry)) self) (accepted (now (layout .entry))) ⌝ }
     {
         match self.first_broken(layout) {
-            Some(place) => Err(SheetFault { flaw: self.flaw(), place }),
+            Some(place) => Err(SheetFault {
+                flaw: self.flaw(),
+                place,
+            }),
             None => Ok(()),
         }
     }

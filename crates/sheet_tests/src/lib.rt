@@ -18,33 +18,126 @@ mod tests {
     }
 
     const CASES: [Case; 23] = [
-        Case { sheet: "104210600102041068", number: 0, place: 0 }, // the worked sheet
-        Case { sheet: "", number: 1, place: 0 },
-        Case { sheet: "1042106001020410", number: 1, place: 61 },
-        Case { sheet: "104210600102041069", number: 6, place: 71 },
-        Case { sheet: "10421060010204106800", number: 6, place: 72 },
-        Case { sheet: "204210600102041068", number: 2, place: 0 },
-        Case { sheet: "10", number: 1, place: 4 },
-        Case { sheet: "20", number: 2, place: 0 }, // edition wrong, and the sheet ends after it
-        Case { sheet: "18010820000000000000000000", number: 0, place: 0 }, // 32 points
-        Case { sheet: "18410820000000000000000000", number: 3, place: 4 }, // 33 points
-        Case { sheet: "1000082000", number: 3, place: 10 }, // no signal
-        Case { sheet: "1021082000", number: 3, place: 10 }, // 33 signals
-        Case { sheet: "1001002000", number: 3, place: 16 }, // no lever
-        Case { sheet: "1001882000", number: 3, place: 16 }, // 17 levers
-        Case { sheet: "10010800", number: 3, place: 21 }, // no route
-        Case { sheet: "10010c20", number: 3, place: 21 }, // 33 routes
-        Case { sheet: "1041082200", number: 4, place: 27 }, // lever 1 of 1
-        Case { sheet: "1041082008", number: 4, place: 32 }, // signal 1 of 1
-        Case { sheet: "1041082003", number: 5, place: 38 }, // point code 3
-        Case { sheet: "1041082002", number: 0, place: 0 }, // point code 2
-        Case { sheet: "1001086000080080", number: 7, place: 2 }, // routes 1 and 2 on lever 0 down
-        Case { sheet: "1001102000", number: 8, place: 1 }, // lever 1 without a route
-        Case { sheet: "1003082008", number: 9, place: 0 }, // signals 0 and 2 without a route
+        Case {
+            sheet: "104210600102041068",
+            number: 0,
+            place: 0,
+        }, // the worked sheet
+        Case {
+            sheet: "",
+            number: 1,
+            place: 0,
+        },
+        Case {
+            sheet: "1042106001020410",
+            number: 1,
+            place: 61,
+        },
+        Case {
+            sheet: "104210600102041069",
+            number: 6,
+            place: 71,
+        },
+        Case {
+            sheet: "10421060010204106800",
+            number: 6,
+            place: 72,
+        },
+        Case {
+            sheet: "204210600102041068",
+            number: 2,
+            place: 0,
+        },
+        Case {
+            sheet: "10",
+            number: 1,
+            place: 4,
+        },
+        Case {
+            sheet: "20",
+            number: 2,
+            place: 0,
+        }, // edition wrong, and the sheet ends after it
+        Case {
+            sheet: "18010820000000000000000000",
+            number: 0,
+            place: 0,
+        }, // 32 points
+        Case {
+            sheet: "18410820000000000000000000",
+            number: 3,
+            place: 4,
+        }, // 33 points
+        Case {
+            sheet: "1000082000",
+            number: 3,
+            place: 10,
+        }, // no signal
+        Case {
+            sheet: "1021082000",
+            number: 3,
+            place: 10,
+        }, // 33 signals
+        Case {
+            sheet: "1001002000",
+            number: 3,
+            place: 16,
+        }, // no lever
+        Case {
+            sheet: "1001882000",
+            number: 3,
+            place: 16,
+        }, // 17 levers
+        Case {
+            sheet: "10010800",
+            number: 3,
+            place: 21,
+        }, // no route
+        Case {
+            sheet: "10010c20",
+            number: 3,
+            place: 21,
+        }, // 33 routes
+        Case {
+            sheet: "1041082200",
+            number: 4,
+            place: 27,
+        }, // lever 1 of 1
+        Case {
+            sheet: "1041082008",
+            number: 4,
+            place: 32,
+        }, // signal 1 of 1
+        Case {
+            sheet: "1041082003",
+            number: 5,
+            place: 38,
+        }, // point code 3
+        Case {
+            sheet: "1041082002",
+            number: 0,
+            place: 0,
+        }, // point code 2
+        Case {
+            sheet: "1001086000080080",
+            number: 7,
+            place: 2,
+        }, // routes 1 and 2 on lever 0 down
+        Case {
+            sheet: "1001102000",
+            number: 8,
+            place: 1,
+        }, // lever 1 without a route
+        Case {
+            sheet: "1003082008",
+            number: 9,
+            place: 0,
+        }, // signals 0 and 2 without a route
     ];
 
     // All four counts at their most: 2923 bits.
-    const FULL: &str = "1820840000000000000000000008102040428618618618618618912244884224924924924924920a1428506380000000\
+    const FULL: &str =
+        "1820840000000000000000000008102040428618618618618618912244884224924924924924920a1428506380000000\
          0000000000000001098618618618618618060c18252d2492492492492490000000318000000000000000000000039d0c\
          30c30c30c30c3004081084124924924924924924489125300000000000000001428514ac30c30c30c30c30c0000016ba\
          49249249249249203060b18000000000000000000000d6a18618618618618600000738924924924924924804087be000\
@@ -89,12 +182,18 @@ mod tests {
     fn what_the_worked_plan_answers() -> Result<(), Fail> {
         let plan = worked_plan()?;
         let counts = plan.counts();
-        check_eq((counts.points, counts.signals, counts.levers, counts.routes), (1, 2, 2, 3))?;
+        check_eq(
+            (counts.points, counts.signals, counts.levers, counts.routes),
+            (1, 2, 2, 3),
+        )?;
         let Some(last) = plan.route(2) else {
             return Err(Fail::new("route 2 is missing"));
         };
         check_eq((last.lever, last.signal), (1, 1))?;
-        check(matches!((last.side, last.release, last.demands[0]), (Side::Up, Release::Train, Demand::Plus)))?;
+        check(matches!(
+            (last.side, last.release, last.demands[0]),
+            (Side::Up, Release::Train, Demand::Plus)
+        ))?;
         check(plan.route(3).is_none())?;
         // Routes 0 and 1 share a lever and a signal; 1 and 2 demand point 0 in both positions.
         check(plan.hostile(0, 1) && plan.hostile(2, 1))?;
@@ -117,7 +216,10 @@ mod tests {
     fn the_blank_plan_has_nothing() -> Result<(), Fail> {
         let plan = Plan::blank();
         let counts = plan.counts();
-        check_eq((counts.points, counts.signals, counts.levers, counts.routes), (0, 0, 0, 0))?;
+        check_eq(
+            (counts.points, counts.signals, counts.levers, counts.routes),
+            (0, 0, 0, 0),
+        )?;
         check(plan.route(0).is_none() && !plan.hostile(0, 1))
     }
 }

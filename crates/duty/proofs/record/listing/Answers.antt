@@ -11,7 +11,7 @@ use Rattle.duty.proofs.record.listing.Needs as need
 pub returns-in-Some : need.returns-in-Some
 returns-in-Some c =
     let o : Some (c .as-slice .result .now) ≡ bytesOf (firstLine (c .args .input .now)) =
-      ap (λ bs. Some bs) (c .as-slice .ensures .value) ∙ (sym (ap (mapped vec-items) (c .in-Some .is)) ∙ c .in-Continue-sheet .ensures tt) in
+    ap (λ bs. Some bs) (c .as-slice .ensures .value) ∙ (sym (ap (mapped vec-items) (c .in-Some .is)) ∙ c .in-Continue-sheet .ensures tt) in
     rw (from-hex (c .args .input .now) (Some (c .as-slice .result .now)) (omega arith) o) (c .sheet-line .ensures)
 
 pub returns-in-None : need.returns-in-None

@@ -7,7 +7,8 @@ use Rattle.sheet.proofs.reader.named.Needs as need
 pub returns-in-Err : need.returns-in-Err
 returns-in-Err c = record {
   value = sym (fill-stop (λ k. flagAt) _ _ (c .args .routes) _ _ _ _ (omega arith) (c .in-Err .ensures tt .value)) ∙ c .loop-k .inv .0;
-  near = omega arith }
+  near = omega arith;
+}
 
 pub loop-k-again : need.loop-k-again
 loop-k-again c =

@@ -26,4 +26,4 @@ loop-at-again c =
 pub returns : need.returns
 returns c =
     ap (λ bs. Some bs) (sym (append-nil (vec-items (c .loop-at .bytes))))
-      ∙ (sym (at-drop-all (λ ys. after (vec-items (c .loop-at .bytes)) (bytesOf ys)) (c .args .text .now) (c .loop-at .at) (c .loop-at-test .left)) ∙ c .loop-at .inv .1)
+    ∙ (sym (at-drop-all (λ ys. after (vec-items (c .loop-at .bytes)) (bytesOf ys)) (c .args .text .now) (c .loop-at .at) (c .loop-at-test .left)) ∙ c .loop-at .inv .1)
