@@ -1,6 +1,5 @@
 pub mod Values
 pub mod Filled
-pub mod Scans
 pub mod Validity
 pub mod Opponents
 pub mod Reading
@@ -10,3 +9,4 @@ pub mod Sheets
 pub mod Took
 pub mod Fits
 pub mod Round
+pub mod Breaches

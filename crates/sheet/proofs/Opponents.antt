@@ -5,7 +5,7 @@ use mathlib.Core.Bool.{Bool, true, false, not, _&&_, _||_}
 use mathlib.Core.Logic.{⊎-elim}
 use mathlib.Core.Path.{_≡_, refl, sym, ap, _∙_}
 use Rattle.std.proofs.shelf.Tests.{eq-eqb, ne-eqb, lt-ltb, le-ltb, cases-eq, cases-lt, and-left, and-right}
-use Rattle.sheet.specs.Scan.{any}
+use Rattle.basics.specs.Scan.{any}
 use Rattle.sheet.specs.Layouts.{routeIn, demandOf}
 use Rattle.sheet.specs.Hostility.{opposed, clashing, namedAtRoute, opponents, areHostile}
 use Rattle.sheet.specs.declared.layout.Demand.{Demand}

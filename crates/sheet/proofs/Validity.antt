@@ -23,7 +23,7 @@ use Rattle.sheet.specs.declared.layout.Release.the-variants.{Station}
 use Rattle.sheet.specs.declared.layout.Route.{Route}
 use Rattle.sheet.specs.declared.layout.Counts.{Counts}
 use Rattle.sheet.specs.declared.layout.Layout.{Layout}
-use Rattle.sheet.proofs.Scans.{any-none, lowest-none}
+use Rattle.basics.proofs.Scans.{any-none, lowest-none}
 
 -- one route more whose lever and signal there are
 pub within-more : (k : ℕ) (c : Counts) (rs : List Route) (x : Route) → k < length rs → WithinTo k c rs

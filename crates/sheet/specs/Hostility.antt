@@ -5,7 +5,7 @@ use lib.ListN.{getD}
 use mathlib.Core.Bool.{Bool, true, false, not, _&&_, _||_}
 use mathlib.Core.List.{List, map}
 use Rattle.std.specs.Iters.{counting}
-use Rattle.sheet.specs.Scan.{any}
+use Rattle.basics.specs.Scan.{any}
 use Rattle.sheet.specs.Layouts.{routeIn, demandOf}
 use Rattle.sheet.specs.declared.layout.Demand.{Demand}
 use Rattle.sheet.specs.declared.layout.Demand.the-variants.{Nothing, Plus, Minus}

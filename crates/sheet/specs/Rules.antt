@@ -4,7 +4,7 @@ use lib.Dec.{eqb}
 use mathlib.Core.Bool.{Bool, not, _&&_}
 use Rattle.std.specs.declared.option.Option.{Option}
 use Rattle.std.specs.declared.option.Option.the-variants.{Some, None}
-use Rattle.sheet.specs.Scan.{any, lowest}
+use Rattle.basics.specs.Scan.{any, lowest}
 use Rattle.sheet.specs.Layouts.{routeIn, sameSide}
 use Rattle.sheet.specs.declared.fault.Flaw.{Flaw}
 use Rattle.sheet.specs.declared.fault.Flaw.the-variants.{SharedLever, IdleLever, IdleSignal}

@@ -2,6 +2,8 @@
 ghost use mathlib.Core.Path.{_≡_};
 ghost use Rattle.sheet.specs.Faults.{numberOf};
 
+use basics::lookup::Numbered;
+
 /// What is wrong with a sheet, or keeps one from being written.
 #[derive(Clone, Copy)]
 pub enum Flaw {
@@ -55,4 +57,12 @@ impl Flaw {
 pub struct SheetFault {
     pub flaw: Flaw,
     pub place: usize,
+}
+
+pub impl Numbered for SheetFault as SheetFaultNumbered {
+    ghost numbered = { λ x. numberOf (x .flaw) };
+
+    fn number(&self) -> u8 {
+        self.flaw.number()
+    }
 }

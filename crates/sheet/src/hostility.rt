@@ -7,7 +7,7 @@ use crate::layout::Demand;
 use crate::layout::Layout;
 use crate::layout::Route;
 use crate::plan::Plan;
-use crate::route_set::RouteSet;
+use basics::route_set::RouteSet;
 
 fn are_opposed(a: Demand, b: Demand) -> bool
     ensures { λ x. ⌜ x ≡ opposed a b ⌝ }
@@ -81,8 +81,6 @@ impl Plan {
     pub fn hostile_set(&self, r: usize) -> RouteSet
         ensures { λ x. ⌜ x .members ≡ hostilesOf (now (self .entry) .layout) r ⌝ }
     {
-        RouteSet {
-            members: hostile_members(&self.layout, r),
-        }
+        RouteSet::of(hostile_members(&self.layout, r))
     }
 }

@@ -18,7 +18,7 @@ pub mod layout;
 pub mod plan;
 pub mod questions;
 pub mod reader;
-pub mod route_set;
 mod rules;
+pub mod survey;
 pub mod worked;
 pub mod writer;

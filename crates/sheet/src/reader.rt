@@ -96,7 +96,7 @@ fn routes(bits: &mut BitReader, counts: Counts) -> Result<[Route; 32], SheetFaul
     Ok(rows)
 }
 
-fn layout(bits: &mut BitReader) -> Result<Layout, SheetFault>
+pub(crate) fn layout(bits: &mut BitReader) -> Result<Layout, SheetFault>
     requires { ⌜ now bits .at ≡ 0 ⌝ }
     ensures value { λ x. ⌜ told x (now (now (bits .exit) .bytes)) (now (bits .exit) .at) ≡ layoutAt (now (now (bits .entry) .bytes)) (now (bits .entry) .at) ⌝ }
     ensures within { λ x. ⌜ made x (λ l. Few (l .counts) × (0 < l .counts .routes) × Within l) ⌝ }

@@ -18,7 +18,7 @@ pub(crate) enum PlanRule {
 }
 
 impl PlanRule {
-    fn flaw(self) -> Flaw
+    pub(crate) fn flaw(self) -> Flaw
         ensures { λ f. ⌜ f ≡ flawOf self ⌝ }
     {
         match self {
@@ -29,7 +29,7 @@ impl PlanRule {
     }
 
     // How many routes, levers or signals it is asked of.
-    fn extent(self, layout: &Layout) -> usize
+    pub(crate) fn extent(self, layout: &Layout) -> usize
         ensures { λ n. ⌜ n ≡ extentOf (now (layout .entry)) self ⌝ }
     {
         match self {
@@ -40,7 +40,7 @@ impl PlanRule {
     }
 
     // Whether route, lever or signal `k` breaks it.
-    fn is_broken(self, layout: &Layout, k: usize) -> bool
+    pub(crate) fn is_broken(self, layout: &Layout, k: usize) -> bool
         requires { ⌜ now layout .counts .routes ≤ 32 ⌝ ∗ ⌜ k < extentOf (now layout) self ⌝ }
         ensures { λ b. ⌜ b ≡ broken (now (layout .entry)) self k ⌝ }
     {

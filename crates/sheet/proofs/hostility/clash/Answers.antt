@@ -2,7 +2,7 @@ use mathlib.Core.Path.{sym}
 use native.Mathlib.Omega.{arith}
 use Rattle.sheet.specs.Hostility.{opposed}
 use Rattle.sheet.specs.Layouts.{demandOf}
-use Rattle.sheet.proofs.Scans.{any-more, any-hit}
+use Rattle.basics.proofs.Scans.{any-more, any-hit}
 use Rattle.sheet.proofs.hostility.clash.Needs as need
 
 pub returns-then-are-opposed : need.returns-then-are-opposed

@@ -2,7 +2,7 @@ use mathlib.Core.Path.{sym}
 use native.Mathlib.Omega.{arith}
 use Rattle.sheet.specs.Layouts.{routeIn}
 use Rattle.sheet.specs.Rules.{alike}
-use Rattle.sheet.proofs.Scans.{any-more, any-hit}
+use Rattle.basics.proofs.Scans.{any-more, any-hit}
 use Rattle.sheet.proofs.rules.shares_lever.Needs as need
 
 pub returns-then-are-alike : need.returns-then-are-alike

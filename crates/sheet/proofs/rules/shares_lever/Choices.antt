@@ -2,7 +2,7 @@ use mathlib.Core.Bool.{false}
 use mathlib.Core.Path.{_≡_}
 use Rattle.sheet.specs.Layouts.{routeIn}
 use Rattle.sheet.specs.Rules.{alike}
-use Rattle.sheet.specs.Scan.{any}
+use Rattle.basics.specs.Scan.{any}
 use Rattle.sheet.proofs.rules.shares_lever.Given as given
 
 abbrev pub Inv-loop-q : given.InvT-loop-q

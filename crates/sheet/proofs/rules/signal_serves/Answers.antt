@@ -4,7 +4,7 @@ use mathlib.Core.Path.{sym}
 use native.Mathlib.Omega.{arith}
 use Rattle.std.proofs.shelf.Tests.{eq-eqb, ne-eqb}
 use Rattle.sheet.specs.Layouts.{routeIn}
-use Rattle.sheet.proofs.Scans.{any-more, any-hit}
+use Rattle.basics.proofs.Scans.{any-more, any-hit}
 use Rattle.sheet.proofs.rules.signal_serves.Needs as need
 
 pub returns-then-layout-r : need.returns-then-layout-r

@@ -2,7 +2,7 @@ use lib.Dec.{eqb}
 use mathlib.Core.Bool.{false}
 use mathlib.Core.Path.{_≡_}
 use Rattle.sheet.specs.Layouts.{routeIn}
-use Rattle.sheet.specs.Scan.{any}
+use Rattle.basics.specs.Scan.{any}
 use Rattle.sheet.proofs.rules.signal_serves.Given as given
 
 abbrev pub Inv-loop-r : given.InvT-loop-r

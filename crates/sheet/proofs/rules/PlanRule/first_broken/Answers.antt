@@ -1,7 +1,7 @@
 use mathlib.Core.Path.{sym}
 use native.Mathlib.Omega.{arith}
 use Rattle.sheet.specs.Rules.{broken, extentOf}
-use Rattle.sheet.proofs.Scans.{lowest-more, lowest-hit}
+use Rattle.basics.proofs.Scans.{lowest-more, lowest-hit}
 use Rattle.sheet.proofs.rules.PlanRule.first_broken.Needs as need
 
 pub returns-then-is-broken : need.returns-then-is-broken

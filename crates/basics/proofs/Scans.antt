@@ -8,7 +8,7 @@ use native.Mathlib.Omega.{arith}
 use Rattle.std.proofs.shelf.Tests.{or-from, or-left, or-right, or-parts, cases-eq}
 use Rattle.std.specs.declared.option.Option.{Option}
 use Rattle.std.specs.declared.option.Option.the-variants.{Some, None}
-use Rattle.sheet.specs.Scan.{any, lowest, orElse}
+use Rattle.basics.specs.Scan.{any, lowest, orElse}
 
 module _ (f : ℕ → Bool) where
   pub any-more : (i : ℕ) → any f i ≡ false → f i ≡ false → any f (i + 1) ≡ false

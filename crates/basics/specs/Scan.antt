@@ -1,5 +1,6 @@
 -- What a scan of the numbers below n finds.
 use mathlib.Core.Bool.{Bool, true, false, _||_, cond}
+use mathlib.Core.List.{List, [], _∷_, _++_}
 use Prim.Native.Nat.{ℕ, zero, suc}
 use Rattle.std.specs.declared.option.Option.{Option}
 use Rattle.std.specs.declared.option.Option.the-variants.{Some, None}
@@ -18,3 +19,8 @@ orElse (Some k) y = Some k
 abbrev pub lowest : (ℕ → Bool) → ℕ → Option ℕ
 lowest f zero = None
 lowest f (suc n) = orElse (lowest f n) (cond (f n) (Some n) None)
+
+-- all of them that pass the test, rising
+abbrev pub passing : (ℕ → Bool) → ℕ → List ℕ
+passing f zero = []
+passing f (suc n) = passing f n ++ cond (f n) (n ∷ []) []
