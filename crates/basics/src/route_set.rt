@@ -21,6 +21,10 @@ impl RouteSet {
     pub fn has(&self, route: usize) -> bool
         ensures { λ b. ⌜ b ≡ member (now (self .entry) .members) route ⌝ }
     {
-        if route < 32 { self.members[route] } else { false }
+        if route < 32 {
+            self.members[route]
+        } else {
+            false
+        }
     }
 }

@@ -1,7 +1,6 @@
 //! Why a sheet or a writing is refused, and where.
 ghost use mathlib.Core.Path.{_≡_};
 ghost use Rattle.sheet.specs.Faults.{numberOf};
-
 use basics::lookup::Numbered;
 
 /// What is wrong with a sheet, or keeps one from being written.

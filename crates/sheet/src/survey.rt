@@ -9,11 +9,11 @@ ghost use Rattle.sheet.specs.Decode.{decode};
 ghost use Rattle.sheet.specs.Survey.{Agreeing, allBreaches, breaches, faultsOf};
 ghost use Rattle.sheet.specs.Valid.{Few};
 use crate::bits::BitReader;
-use basics::book::Book;
 use crate::fault::SheetFault;
 use crate::layout::Layout;
 use crate::reader::layout;
 use crate::rules::PlanRule;
+use basics::book::Book;
 
 // One fault into the book, if it has room.
 fn note(fault: SheetFault, book: &mut Book<'_, SheetFault>)
