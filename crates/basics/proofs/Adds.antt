@@ -1,15 +1,15 @@
 -- Entries into a book, one after the other.
-use Prim.Native.Nat.{ℕ, zero, suc, _+_, _-_, _<_, _≤_}
+use Prim.Native.Nat.{ℕ, suc, _+_, _-_}
 use lib.Dec.{ltb}
 use lib.ListN.{length, take, drop, set}
 use mathlib.Core.Bool.{true, false}
 use mathlib.Core.List.{List, [], _∷_, _++_}
 use mathlib.Core.Logic.{⊎-elim}
-use mathlib.Core.Path.{_≡_, refl, sym, ap, _∙_}
+use mathlib.Core.Path.{_≡_, sym, _∙_}
 use native.Mathlib.Omega.{arith}
-use Rattle.std.proofs.shelf.Lists.{append-assoc, append-nil, take-all, take-append-drop, take-more-set, drop-set-lt, drop-all, length-set}
+use Rattle.std.proofs.shelf.Lists.{append-assoc, take-all, take-append-drop, take-more-set, drop-set-lt, drop-all, length-set}
 use Rattle.std.proofs.shelf.Tests.{cases-lt, lt-ltb, le-ltb}
-use Rattle.basics.specs.Books.{rowsWith, countWith, rowsAfter, countAfter, fitting}
+use Rattle.basics.specs.Books.{rowsWith, countWith, rowsAfter, countAfter}
 
 module _ {X : Type 0} where
   take-none : (m : ℕ) → take {A = X} m [] ≡ []

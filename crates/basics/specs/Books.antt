@@ -3,7 +3,8 @@ use Prim.Native.Nat.{ℕ, _+_, _-_}
 use lib.Dec.{ltb}
 use lib.ListN.{length, set, take, drop}
 use mathlib.Core.Bool.{Bool, cond}
-use mathlib.Core.List.{List, [], _∷_, _++_}
+use mathlib.Core.List.{List, _++_}
+use mathlib.Core.Path.{_≡_}
 use Rattle.std.specs.declared.option.Option.{Option}
 use Rattle.std.specs.declared.option.Option.the-variants.{Some, None}
 use Rattle.std.specs.declared.result.Result.{Result}
@@ -45,3 +46,7 @@ rowsAfter xs n ys = take n xs ++ (fitting xs n ys ++ drop (n + length ys) xs)
 
 abbrev pub countAfter : {X : Type 0} → List X → ℕ → List X → ℕ
 countAfter xs n ys = n + length (fitting xs n ys)
+
+-- the rows, and how many are filled, once the entries ys have been added to rows xs with n filled
+abbrev pub Since : {X : Type 0} → List X → ℕ → List X → List X → ℕ → Type 0
+Since xs n ys later m = (later ≡ rowsAfter xs n ys) × (m ≡ countAfter xs n ys)

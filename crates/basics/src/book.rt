@@ -75,7 +75,7 @@ impl<'a, T: Copy> Book<'a, T> {
     pub fn count(&self) -> usize
         ensures { λ n. ⌜ n ≡ now (self .entry) .count ⌝ }
     {
-        self.count // not how many rows there are
+        self.count // of the rows that are filled
     }
 
     /// The entries so far, in their order.

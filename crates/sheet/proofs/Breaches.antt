@@ -12,7 +12,7 @@ use Rattle.basics.specs.Scan.{lowest, orElse, passing}
 use Rattle.sheet.specs.Bits.{Read, done, fault}
 use Rattle.sheet.specs.Fields.{layoutAt}
 use Rattle.sheet.specs.Rules.{broken, extentOf, flawOf, lowestBroken}
-use Rattle.sheet.specs.Decode.{Outcome, accepted, refused, refuse, ruled, settled, decode}
+use Rattle.sheet.specs.Decode.{Outcome, accepted, refuse, ruled, settled, decode}
 use Rattle.sheet.specs.Survey.{breaches, breachesTo, allBreaches, surveyed, faultsOf, Agreeing}
 use Rattle.sheet.specs.Valid.{Few}
 use Rattle.sheet.specs.declared.fault.SheetFault.{SheetFault}

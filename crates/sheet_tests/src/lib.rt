@@ -1,5 +1,7 @@
 //! Sheets with what is said of them, found by a reader of its own in another language.
 
+mod books;
+
 #[cfg(test)]
 mod tests {
     use sheet::layout::Demand;
@@ -210,6 +212,32 @@ mod tests {
         };
         check(plan.hostile(0, 2) && plan.hostile(2, 0))?;
         check(!plan.hostile(0, 1) && !plan.hostile(2, 1))
+    }
+
+    fn written(plan: &Plan, buffer: &mut [u8]) -> (u8, usize) {
+        match plan.write(buffer) {
+            Ok(length) => (0, length),
+            Err(fault) => (fault.flaw.number(), fault.place),
+        }
+    }
+
+    #[test]
+    fn written_to_the_front_of_a_buffer() -> Result<(), Fail> {
+        let plan = worked_plan()?;
+        let sheet = worked_sheet();
+        check_eq(plan.sheet_len(), 9)?;
+        let mut long = [0xff; 12];
+        check_eq(written(&plan, &mut long), (0, 9))?;
+        for (byte, expected) in long.iter().zip(sheet.iter()) {
+            check_eq(*byte, *expected)?;
+        }
+        check_eq((long[9], long[10], long[11]), (0xff, 0xff, 0xff))?;
+        let mut exact = [0; 9];
+        check_eq(written(&plan, &mut exact), (0, 9))?;
+        let mut short = [0xff; 8];
+        check_eq(written(&plan, &mut short), (37, 0))?;
+        check_eq((short[0], short[7]), (0xff, 0xff))?;
+        check_eq(written(&Plan::blank(), &mut short), (11, 0))
     }
 
     #[test]

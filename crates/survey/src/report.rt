@@ -20,10 +20,14 @@ use text::input::first_line_bytes;
 /// The most bytes that an input may have.
 const LIMIT: usize = 65_536;
 
-const NO_SHEET: &str = "this is no sheet: lower-case hex on the first line, two digits a byte, and at most 65536 bytes in all\n";
+const NO_SHEET: &str =
+    "this is no sheet: lower-case hex on the first line, two digits a byte, and at most 65536 bytes in all\n";
 
 /// A row that no fault is noted in yet.
-const UNUSED: SheetFault = SheetFault { flaw: Flaw::EndsInside, place: 0 };
+const UNUSED: SheetFault = SheetFault {
+    flaw: Flaw::EndsInside,
+    place: 0,
+};
 
 fn good_line(heap: Global, counts: Counts) -> Result<String, AllocError>
     ensures { λ r. ⌜ made r (λ s. string-bytes s ≡ goodLine counts) ⌝ }
@@ -32,7 +36,10 @@ fn good_line(heap: Global, counts: Counts) -> Result<String, AllocError>
     let signals = counts.signals;
     let levers = counts.levers;
     let routes = counts.routes;
-    format!(heap, "the sheet is good: points {points}, signals {signals}, route levers {levers}, routes {routes}\n")
+    format!(
+        heap,
+        "the sheet is good: points {points}, signals {signals}, route levers {levers}, routes {routes}\n"
+    )
 }
 
 fn fault_lines(heap: Global, faults: &[SheetFault]) -> Result<String, AllocError>

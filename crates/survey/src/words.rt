@@ -15,10 +15,12 @@ fn meaning(flaw: Flaw) -> &'static str
     match flaw {
         Flaw::EndsInside => "the sheet ends inside the field that begins here",
         Flaw::WrongEdition => "the edition is not 1",
-        Flaw::CountOutside => "this count is outside its limits (points 0 to 32, signals 1 to 32, route levers 1 to 16, routes 1 to 32)",
+        Flaw::CountOutside =>
+            "this count is outside its limits (points 0 to 32, signals 1 to 32, route levers 1 to 16, routes 1 to 32)",
         Flaw::NumberTooHigh => "a route names a lever or a signal here that the plan has not",
         Flaw::BadPointCode => "this point has the code 3 (nothing is 0, plus is 1, minus is 2)",
-        Flaw::BadFilling => "the sheet is over here: only zeros may follow, and only up to a whole byte",
+        Flaw::BadFilling =>
+            "the sheet is over here: only zeros may follow, and only up to a whole byte",
         Flaw::SharedLever => "a lower route has the same lever and side",
         Flaw::IdleLever => "no route uses it",
         Flaw::IdleSignal => "no route uses it",
@@ -65,5 +67,10 @@ pub(crate) fn fault_line(heap: Global, fault: SheetFault) -> Result<String, Allo
     ensures { λ r. ⌜ made r (λ s. string-bytes s ≡ faultLine fault) ⌝ }
 {
     let spot = spot(heap, fault)?;
-    joined(heap, fault.flaw.number(), spot.as_str(), meaning(fault.flaw))
+    joined(
+        heap,
+        fault.flaw.number(),
+        spot.as_str(),
+        meaning(fault.flaw),
+    )
 }

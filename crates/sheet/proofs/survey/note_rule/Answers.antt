@@ -58,10 +58,13 @@ returns c =
     let n = c .args .book .now .count in
     let k : c .loop-k .k ≡ extentOf (c .args .layout .now) (c .args .rule) = omega (arith, c .extent-k-end .ensures) in
     let e = ap (breachesTo (c .args .layout .now) (c .args .rule)) k in
+    let zs = breachesTo (c .args .layout .now) (c .args .rule) (extentOf (c .args .layout .now) (c .args .rule)) in
     record {
       total = v .0 ∙ ap length e;
       small = omega (arith, v .1, k, extent-few (c .args .layout .now) (c .args .rule) (c .pre));
-      written = v .2 ∙ ap (rowsAfter xs n) e;
-      filled = v .3 ∙ ap (countAfter xs n) e;
+      onward = λ ws m ys h. (
+        rows-then ws m ys zs _ _ _ (h .0) (h .1) (v .2 ∙ ap (rowsAfter xs n) e),
+        count-then ws m ys zs _ _ _ (h .0) (h .1) (v .3 ∙ ap (countAfter xs n) e),
+      );
       lender = v .4;
     }
