@@ -22,20 +22,20 @@ pub too-long : (input : List ℕ) → 65536 < length input → reportOf input �
 too-long input h = let t = lt-leb (length input) 65536 h in rw t
 
 -- the lines of the faults from place i on, one by one
-pub lines-more : (fs : List SheetFault) (i : ℕ) (d : SheetFault) → i < length fs → faultLines (drop i fs) ≡ faultLine (getD fs i d) ++ faultLines (drop (i + 1) fs)
+pub lines-more : (s : List ℕ) (fs : List SheetFault) (i : ℕ) (d : SheetFault) → i < length fs → faultLines s (drop i fs) ≡ faultLine s (getD fs i d) ++ faultLines s (drop (i + 1) fs)
 unfolding faultLines
-lines-more fs i d h = at-drop-more faultLines fs i d h
+lines-more s fs i d h = at-drop-more (faultLines s) fs i d h
 
-pub lines-step : (out line now : List ℕ) (fs : List SheetFault) (i : ℕ) → i < length fs → out ++ faultLines (drop i fs) ≡ faultLines fs
-    → line ≡ faultLine (getD fs i (record { flaw = EndsInside; place = 0 })) → now ≡ out ++ line → now ++ faultLines (drop (i + 1) fs) ≡ faultLines fs
-lines-step out line now fs i h inv e f =
-    let m = lines-more fs i (record { flaw = EndsInside; place = 0 }) h in
-    let a = append-assoc out line (faultLines (drop (i + 1) fs)) in
+pub lines-step : (s out line now : List ℕ) (fs : List SheetFault) (i : ℕ) → i < length fs → out ++ faultLines s (drop i fs) ≡ faultLines s fs
+    → line ≡ faultLine s (getD fs i (record { flaw = EndsInside; place = 0 })) → now ≡ out ++ line → now ++ faultLines s (drop (i + 1) fs) ≡ faultLines s fs
+lines-step s out line now fs i h inv e f =
+    let m = lines-more s fs i (record { flaw = EndsInside; place = 0 }) h in
+    let a = append-assoc out line (faultLines s (drop (i + 1) fs)) in
     cc
 
-pub lines-end : (out : List ℕ) (fs : List SheetFault) (i : ℕ) → length fs ≤ i → out ++ faultLines (drop i fs) ≡ faultLines fs → out ≡ faultLines fs
+pub lines-end : (s out : List ℕ) (fs : List SheetFault) (i : ℕ) → length fs ≤ i → out ++ faultLines s (drop i fs) ≡ faultLines s fs → out ≡ faultLines s fs
 unfolding faultLines
-lines-end out fs i h inv = sym (append-nil out) ∙ (ap (λ ys. out ++ ys) (sym (at-drop-all faultLines fs i h)) ∙ inv)
+lines-end s out fs i h inv = sym (append-nil out) ∙ (ap (λ ys. out ++ ys) (sym (at-drop-all (faultLines s) fs i h)) ∙ inv)
 
 -- what a book that was empty holds after a survey
 pub first-entries : (rows fs : List SheetFault) → take (countAfter rows 0 fs) (rowsAfter rows 0 fs) ≡ take (length rows) fs
@@ -44,10 +44,10 @@ first-entries rows fs =
     let t = take-at (take (length rows - 0) fs) (drop (0 + length fs) rows) (0 + length (take (length rows - 0) fs)) (omega arith) in
     t ∙ ap (λ (n : ℕ). take n fs) z
 
-pub report-so : (fs rows after entries : List SheetFault) (n n′ total : ℕ) (out lines now : List ℕ) → length rows ≡ 96 → n ≡ 0
+pub report-so : (s : List ℕ) (fs rows after entries : List SheetFault) (n n′ total : ℕ) (out lines now : List ℕ) → length rows ≡ 96 → n ≡ 0
     → total ≡ length fs → after ≡ rowsAfter rows n fs → n′ ≡ countAfter rows n fs → entries ≡ take n′ after
-    → out ≡ totalLine total → lines ≡ faultLines entries → now ≡ out ++ lines → now ≡ faultReport fs
-report-so fs rows after entries n n′ total out lines now size z t a b e o l w =
+    → out ≡ totalLine total → lines ≡ faultLines s entries → now ≡ out ++ lines → now ≡ faultReport s fs
+report-so s fs rows after entries n n′ total out lines now size z t a b e o l w =
     let f = first-entries rows fs in
-    let s : entries ≡ take 96 fs = e ∙ ((cc (a, b, z)) ∙ (f ∙ ap (λ (k : ℕ). take k fs) size)) in
+    let k : entries ≡ take 96 fs = e ∙ ((cc (a, b, z)) ∙ (f ∙ ap (λ (m : ℕ). take m fs) size)) in
     cc

@@ -25,24 +25,27 @@ goodLine c =
 unfoldable pub totalLine : ℕ → List ℕ
 totalLine n = codes "faults: " ++ (decimal n ++ codes "\n")
 
-unfoldable pub faultLines : List SheetFault → List ℕ
-faultLines [] = []
-faultLines (f ∷ fs) = faultLine f ++ faultLines fs
+unfoldable pub faultLines : List ℕ → List SheetFault → List ℕ
+faultLines s [] = []
+faultLines s (f ∷ fs) = faultLine s f ++ faultLines s fs
 
--- all faults, of which there are at most 96: 32 of each rule
-abbrev pub faultReport : List SheetFault → List ℕ
-faultReport fs = totalLine (length fs) ++ faultLines (take 96 fs)
+-- all faults of a sheet, of which there are at most 96: 32 of each rule
+abbrev pub faultReport : List ℕ → List SheetFault → List ℕ
+faultReport s fs = totalLine (length fs) ++ faultLines s (take 96 fs)
 
-abbrev pub outcomeReport : Outcome → List SheetFault → List ℕ
-outcomeReport (accepted l) fs = goodLine (l .counts)
-outcomeReport (refused n p) fs = faultReport fs
+abbrev pub reportBy : Outcome → List ℕ → List ℕ
+reportBy (accepted l) s = goodLine (l .counts)
+reportBy (refused n p) s = faultReport s (faultsOf s)
+
+abbrev pub sheetReport : List ℕ → List ℕ
+sheetReport s = reportBy (decode s) s
 
 -- where the first line is no hex, or the input is too long
 abbrev pub noSheet : List ℕ
 noSheet = codes "this is no sheet: lower-case hex on the first line, two digits a byte, and at most 65536 bytes in all\n"
 
 abbrev pub afterHex : Option (List ℕ) → List ℕ
-afterHex (Some s) = outcomeReport (decode s) (faultsOf s)
+afterHex (Some s) = sheetReport s
 afterHex None = noSheet
 
 -- the sheet stands in hex on the first line

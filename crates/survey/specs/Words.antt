@@ -1,7 +1,9 @@
 -- A fault in plain words.
-use Prim.Native.Nat.{ℕ, _/_, _%_}
+use Prim.Native.Nat.{ℕ, zero, suc, _+_, _-_, _*_, _/_, _%_}
 use lib.Chars.{codes}
-use mathlib.Core.List.{List, _++_}
+use lib.Dec.{ltb}
+use mathlib.Core.Bool.{cond}
+use mathlib.Core.List.{List, [], _∷_, _++_}
 use Rattle.std.specs.Written.{decimal}
 use Rattle.std.specs.declared.option.Option.{Option}
 use Rattle.std.specs.declared.option.Option.the-variants.{Some, None}
@@ -23,9 +25,35 @@ meaningOf IdleSignal = codes "no route uses it"
 meaningOf BlankPlan = codes "a blank plan has no sheet"
 meaningOf NoRoom = codes "the buffer is too short"
 
--- bit i, with its byte and its place there
-abbrev pub bitSpot : ℕ → List ℕ
-bitSpot i = codes "bit " ++ (decimal i ++ (codes " (byte " ++ (decimal (i / 8) ++ (codes ", bit " ++ (decimal (i % 8) ++ codes " from its top)")))))
+-- of m routes from route r on, whose fields begin at bit start, the one that has bit i: of p points and n routes
+abbrev pub holding : ℕ → ℕ → ℕ → ℕ → ℕ → ℕ → Option ℕ
+holding p n i zero r start = None
+holding p n i (suc m) r start =
+    cond (ltb i (start + (11 + 2 * p + (n - (r + 1))))) (Some r) (holding p n i m (r + 1) (start + (11 + 2 * p + (n - (r + 1)))))
+
+-- the route that has bit i, by the counts in the head: points in bits 4 to 9, routes in bits 21 to 26
+abbrev pub routeHolding : List ℕ → ℕ → Option ℕ
+routeHolding [] i = None
+routeHolding (a ∷ []) i = None
+routeHolding (a ∷ b ∷ []) i = None
+routeHolding (a ∷ b ∷ c ∷ []) i = None
+routeHolding (a ∷ b ∷ c ∷ d ∷ rest) i = holding (a % 16 * 4 + b / 64) (c % 8 * 8 + d / 32) i (c % 8 * 8 + d / 32) 0 27
+
+abbrev pub partBy : Option ℕ → List ℕ
+partBy (Some r) = codes "in route " ++ decimal r
+partBy None = codes "after the last route"
+
+-- the part of a sheet that bit i stands in
+unfoldable pub partOf : List ℕ → ℕ → List ℕ
+partOf s i = cond (ltb i 27) (codes "in the head") (partBy (routeHolding s i))
+
+-- bit i, with its byte, its place there, and the part of the sheet
+abbrev pub bitWords : ℕ → List ℕ → List ℕ
+bitWords i part =
+    codes "bit " ++ (decimal i ++ (codes " (byte " ++ (decimal (i / 8) ++ (codes ", bit " ++ (decimal (i % 8) ++ (codes " from its top, " ++ (part ++ codes ")")))))))
+
+abbrev pub bitSpot : List ℕ → ℕ → List ℕ
+bitSpot s i = bitWords i (partOf s i)
 
 -- what a fault's place counts, where that is not bits
 abbrev pub countedBy : Flaw → Option (List ℕ)
@@ -41,16 +69,17 @@ countedBy IdleSignal = Some (codes "signal")
 countedBy BlankPlan = None
 countedBy NoRoom = None
 
-abbrev pub spotBy : Option (List ℕ) → ℕ → List ℕ
-spotBy (Some thing) p = thing ++ (codes " " ++ decimal p)
-spotBy None p = bitSpot p
+abbrev pub spotBy : Option (List ℕ) → List ℕ → ℕ → List ℕ
+spotBy (Some thing) s p = thing ++ (codes " " ++ decimal p)
+spotBy None s p = bitSpot s p
 
-abbrev pub spotOf : SheetFault → List ℕ
-spotOf f = spotBy (countedBy (f .flaw)) (f .place)
+-- where a fault of a sheet stands
+abbrev pub spotOf : List ℕ → SheetFault → List ℕ
+spotOf s f = spotBy (countedBy (f .flaw)) s (f .place)
 
 -- a fault's number, where it stands and what it means
 abbrev pub lineOf : ℕ → List ℕ → List ℕ → List ℕ
 lineOf n spot meaning = codes "fault " ++ (decimal n ++ (codes " at " ++ (spot ++ (codes ": " ++ (meaning ++ codes "\n")))))
 
-abbrev pub faultLine : SheetFault → List ℕ
-faultLine f = lineOf (numberOf (f .flaw)) (spotOf f) (meaningOf (f .flaw))
+abbrev pub faultLine : List ℕ → SheetFault → List ℕ
+faultLine s f = lineOf (numberOf (f .flaw)) (spotOf s f) (meaningOf (f .flaw))

@@ -3,9 +3,8 @@ ghost use lib.ListN.{length, take};
 ghost use mathlib.Core.Path.{_≡_};
 ghost use Rattle.std.specs.Of.String.{string-bytes};
 ghost use Rattle.std.specs.Vec.{made};
-ghost use Rattle.sheet.specs.Decode.{decode};
 ghost use Rattle.sheet.specs.Survey.{faultsOf};
-ghost use Rattle.survey.specs.Report.{faultLines, faultReport, goodLine, outcomeReport, reportOf, totalLine};
+ghost use Rattle.survey.specs.Report.{faultLines, faultReport, goodLine, reportOf, sheetReport, totalLine};
 use crate::words::fault_line;
 use basics::book::Book;
 use sheet::fault::Flaw;
@@ -42,12 +41,12 @@ fn good_line(heap: Global, counts: Counts) -> Result<String, AllocError>
     )
 }
 
-fn fault_lines(heap: Global, faults: &[SheetFault]) -> Result<String, AllocError>
-    ensures { λ r. ⌜ made r (λ s. string-bytes s ≡ faultLines (now (faults .entry))) ⌝ }
+fn fault_lines(heap: Global, sheet: &[u8], faults: &[SheetFault]) -> Result<String, AllocError>
+    ensures { λ r. ⌜ made r (λ s. string-bytes s ≡ faultLines (now (sheet .entry)) (now (faults .entry))) ⌝ }
 {
     let mut out = String::new(heap);
     for fault in faults {
-        let line = fault_line(heap, *fault)?;
+        let line = fault_line(heap, sheet, *fault)?;
         out.push_str(line.as_str())?;
     }
     Ok(out)
@@ -60,19 +59,19 @@ fn total_line(heap: Global, total: usize) -> Result<String, AllocError>
 }
 
 fn fault_report(heap: Global, sheet: &[u8]) -> Result<String, AllocError>
-    ensures { λ r. ⌜ made r (λ s. string-bytes s ≡ faultReport (faultsOf (now (sheet .entry)))) ⌝ }
+    ensures { λ r. ⌜ made r (λ s. string-bytes s ≡ faultReport (now (sheet .entry)) (faultsOf (now (sheet .entry)))) ⌝ }
 {
     let mut rows = [UNUSED; 96];
     let mut book = Book::new(&mut rows);
     let total = survey(sheet, &mut book);
     let mut out = total_line(heap, total)?;
-    let lines = fault_lines(heap, book.entries())?;
+    let lines = fault_lines(heap, sheet, book.entries())?;
     out.push_str(lines.as_str())?;
     Ok(out)
 }
 
 fn sheet_report(heap: Global, sheet: &[u8]) -> Result<String, AllocError>
-    ensures { λ r. ⌜ made r (λ s. string-bytes s ≡ outcomeReport (decode (now (sheet .entry))) (faultsOf (now (sheet .entry)))) ⌝ }
+    ensures { λ r. ⌜ made r (λ s. string-bytes s ≡ sheetReport (now (sheet .entry))) ⌝ }
 {
     match read(sheet) {
         Ok(plan) => good_line(heap, plan.counts()),

@@ -6,4 +6,4 @@ use Rattle.survey.specs.Report.{faultLines}
 use Rattle.survey.proofs.report.fault_lines.Given as given
 
 abbrev pub Inv-loop-fault : given.InvT-loop-fault
-Inv-loop-fault l = string-bytes (l .out) ++ faultLines (drop (l .fault-index) (l .faults)) ≡ faultLines (l .faults)
+Inv-loop-fault l = string-bytes (l .out) ++ faultLines (l .sheet) (drop (l .fault-index) (l .faults)) ≡ faultLines (l .sheet) (l .faults)

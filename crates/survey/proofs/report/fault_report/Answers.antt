@@ -6,7 +6,7 @@ use Rattle.survey.proofs.report.fault_report.Needs as need
 
 pub returns : need.returns
 returns c =
-    report-so (faultsOf (c .args .sheet .now)) _ _ _ _ _ (c .survey-total .result) _ _ _
+    report-so (c .args .sheet .now) (faultsOf (c .args .sheet .now)) _ _ _ _ _ (c .survey-total .result) _ _ _
     (ap length (c .new-book .ensures .kept)) (c .new-book .ensures .filled)
     (c .survey-total .ensures .total) (c .survey-total .ensures .written) (c .survey-total .ensures .filled) (c .entries .ensures)
     (c .in-Continue-out .ensures tt) (c .as-str .ensures .value ∙ c .in-Continue-lines .ensures tt) (c .in-Continue-push-str .ensures tt .bytes)
