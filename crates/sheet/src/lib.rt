@@ -1,6 +1,6 @@
 //! Plan sheets: what a plan says, and how a sheet of bytes is read into one.
 
-// A reading's value, or back to the caller with its fault: `?` written out, which the prover goes through many times faster.
+// A reading's value, or back to the caller with its fault: `?` written out, for functions where many follow one another.
 macro_rules! take {
     ($reading:expr) => {
         match $reading {
