@@ -1,5 +1,5 @@
 -- What a scan of the numbers below n finds.
-use Rattle.std.specs.Prelude.{ℕ, zero, suc, Bool, true, false, cond, ◌||◌, List, [], ◌∷◌, ◌++◌, Some, None, Option}
+use Rattle.std.specs.Prelude.{ℕ, zero, suc, Bool, false, cond, ◌||◌, List, [], ◌∷◌, ◌++◌, Some, None, Option}
 
 -- whether one of them passes the test
 abbrev pub any : (ℕ → Bool) → ℕ → Bool

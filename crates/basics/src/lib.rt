@@ -1,4 +1,5 @@
 //! What the layers share: books of entries, one search under a number, and sets of routes.
+#![tactic(auto)]
 
 pub mod book;
 pub mod lookup;

@@ -1,5 +1,5 @@
 -- What a block means.
-use Rattle.std.specs.Prelude.{◌≡◌, ℕ, ◌≤◌, Bool, true, false, ◌&&◌, List, length, set, replicate, slice_set}
+use Rattle.std.specs.Prelude.{◌≡◌, ℕ, ◌≤◌, Bool, true, false, ◌&&◌, List, length, replicate, slice_set}
 use Rattle.basics.specs.RouteSets.{member}
 use Rattle.basics.specs.Scan.{any}
 

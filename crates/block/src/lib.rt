@@ -1,4 +1,5 @@
 //! The block: the consents of a line between a station and a signal box, behind one interface, and two makes of it.
+#![tactic(auto)]
 
 pub mod fault;
 pub mod interface;

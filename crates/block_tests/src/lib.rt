@@ -1,4 +1,5 @@
 //! Tests of the block: both makes are worked through one table of calls.
+#![tactic(auto)]
 
 #[cfg(test)]
 mod tests {

@@ -1,5 +1,5 @@
 -- Words for what stands on a board.
-use Rattle.std.specs.Prelude.{ℕ, zero, suc, Bool, true, false, cond, not, ◌&&◌, ◌||◌, List, set, replicate, ◌==◌, nat_lt, slice_index_or, slice_set}
+use Rattle.std.specs.Prelude.{ℕ, zero, suc, Bool, true, false, cond, not, ◌&&◌, ◌||◌, List, replicate, ◌==◌, nat_lt, slice_index_or, slice_set}
 use Rattle.sheet.specs.Layouts.{route_in, demand_of}
 use Rattle.sheet.specs.declared.layout.Side.{Side}
 use Rattle.sheet.specs.declared.layout.Side.TheVariants as side

@@ -1,5 +1,5 @@
 -- What each call of the board answers under a plan, its tests in their order, and how the board stands after an accepted one.
-use Rattle.std.specs.Prelude.{ℕ, Bool, cond, not, ◌&&◌, ltb, Some, None, Option}
+use Rattle.std.specs.Prelude.{ℕ, Bool, cond, not, Some, None, Option}
 use Rattle.basics.specs.Scan.{any, lowest}
 use Rattle.sheet.specs.Layouts.{demand_of}
 use Rattle.sheet.specs.declared.layout.Release.{Release}
@@ -17,7 +17,7 @@ use Rattle.board.specs.declared.board.Stage.TheVariants.{Held, Cleared, Run}
 use Rattle.board.specs.declared.board.Arm.TheVariants as arm
 use Rattle.board.specs.declared.board.Board.{Board}
 use Rattle.board.specs.Answers.{refuse}
-use Rattle.board.specs.Boards.{is_trailed, demanded, hinders, fails, other_way, trailed_here, coupled_again, is_normal, toward, is_held, is_cleared, is_run, is_spent, released, is_pulled, dropped, point_at, stage_at, arm_at, lever_of, with_point, with_lever, with_stage, with_arm, with_signals, lacks_point, lacks_signal, lacks_route, route_of, is_set, claims, serves, fell}
+use Rattle.board.specs.Boards.{is_trailed, hinders, fails, other_way, trailed_here, coupled_again, is_normal, toward, is_held, is_cleared, is_run, is_spent, released, is_pulled, dropped, point_at, stage_at, arm_at, lever_of, with_point, with_lever, with_stage, with_arm, with_signals, lacks_point, lacks_signal, lacks_route, route_of, is_set, claims, serves, fell}
 
 -- Throw a point
 

@@ -1,4 +1,5 @@
 //! The board: points, route levers, fields and signal levers, what each may do under a plan, and what is answered.
+#![tactic(auto)]
 
 pub mod answer;
 pub mod board;

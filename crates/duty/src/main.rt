@@ -1,4 +1,6 @@
 //! Reads a duty from the standard input and prints its record.
+#![tactic(auto)]
+
 mod record;
 
 use record::listing;

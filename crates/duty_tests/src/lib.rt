@@ -1,4 +1,5 @@
 //! Inputs of the duty program, each with its whole listing.
+#![tactic(auto)]
 
 #[cfg(test)]
 mod tests {

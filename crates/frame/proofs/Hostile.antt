@@ -1,14 +1,14 @@
 -- Hostile routes, and the set of them that a give is handed.
-use Rattle.std.proofs.Common.{◌≡◌, ℕ, ◌<◌, ◌≤◌, Bool, true, false, ◌&&◌, ◌||◌, eqb, ltb, List, length, get_or, sym, ◌∙◌, ⊎_elim, arith}
+use Rattle.std.proofs.Common.{◌≡◌, ℕ, ◌<◌, Bool, true, false, ◌&&◌, ◌||◌, eqb, ltb, List, length, get_or, ◌∙◌, ⊎_elim, arith}
 use Rattle.std.proofs.lemmas.List.FromFn.{get_or-map-range_with_len}
 use Rattle.std.proofs.lemmas.List.{get_or_past}
 use Rattle.std.proofs.lemmas.Bool.{and_from, and_parts, both_ways, cases_lt, eq-eqb, ltb-true, or_left, or_right}
 use Rattle.basics.proofs.Scans.{any_none}
-use Rattle.sheet.specs.Hostility.{are_hostile, hostiles_of, opponents, named_at_route, clashing}
+use Rattle.sheet.specs.Hostility.{are_hostile, hostiles_of, named_at_route, clashing}
 use Rattle.sheet.specs.Layouts.{route_in}
 use Rattle.sheet.specs.declared.layout.Layout.{Layout}
 use Rattle.sheet.proofs.Opponents.{hostile_two, hostile_not}
-use Rattle.block.specs.Meaning.{Meaning, WellFormed, is_out, any_out, out_of}
+use Rattle.block.specs.Meaning.{Meaning, is_out, any_out, out_of}
 
 pub hostile_known : (l : Layout) (r q : ℕ) → are_hostile l r q ≡ true → (r < l.counts.routes) × (q < l.counts.routes)
 unfolding are_hostile

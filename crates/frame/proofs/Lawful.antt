@@ -1,12 +1,12 @@
 -- The law of a duty, from what each call keeps.
-use Rattle.std.proofs.Common.{◌≡◌, ℕ, ◌+◌, ◌<◌, ◌≤◌, Bool, true, false, cond, ◌&&◌, ◌||◌, eqb, ◌≢◌, List, [], ◌∷◌, ◌++◌, length, get_or, set, Some, None, Option, sym, refl, ap, ◌∙◌, subst, ⊎_elim, arith}
+use Rattle.std.proofs.Common.{◌≡◌, ℕ, ◌+◌, ◌<◌, ◌≤◌, Bool, true, false, cond, ◌&&◌, ◌||◌, eqb, ◌≢◌, List, [], ◌∷◌, ◌++◌, length, get_or, set, Some, None, Option, sym, refl, ap, ◌∙◌, ⊎_elim, arith}
 use Rattle.std.proofs.lemmas.List.Sums.{fold_push}
 use Rattle.std.proofs.lemmas.Bool.{and_parts, both_ways, cases_eq, eq-eqb, eqb-true, ne_eqb, or_cases}
 use Rattle.basics.proofs.Scans.{lowest_some}
 use Rattle.sheet.specs.declared.plan.Plan.{Plan}
 use Rattle.block.specs.Meaning.{Meaning, is_out}
 use Rattle.board.specs.Answers.{answer_number, refuse, settled}
-use Rattle.board.specs.Boards.{is_held, is_run, is_spent, is_clear, released, arm_at, stage_at, is_set, is_signalled, serves}
+use Rattle.board.specs.Boards.{is_held, is_run, is_spent, is_clear, released, stage_at, is_set, is_signalled, serves}
 use Rattle.board.specs.Calls.{set_route_of, pull_for, pulled_for}
 use Rattle.board.specs.declared.answer.FrameFault.TheVariants.{UnknownCall}
 use Rattle.board.specs.declared.answer.Fault.{Fault}

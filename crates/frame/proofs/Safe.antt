@@ -1,5 +1,5 @@
 -- What every call keeps, and that each keeps it.
-use Rattle.std.proofs.Common.{◌≡◌, ℕ, ◌<◌, ◌≤◌, Bool, true, false, eqb, ◌≢◌, ◌⊎◌, length, get_or, set, replicate, Some, None, Option, sym, refl, ap, ◌∙◌, subst, inl, inr, ⊎_elim, arith, length-set}
+use Rattle.std.proofs.Common.{◌≡◌, ℕ, ◌<◌, ◌≤◌, Bool, true, false, eqb, ◌≢◌, ◌⊎◌, length, get_or, replicate, Some, None, Option, sym, refl, ap, ◌∙◌, subst, inl, inr, ⊎_elim, arith, length-set}
 use lib.ListN.{length-replicate}
 use Rattle.std.proofs.lemmas.List.{get_or-set_same, get_or_past, get_or-replicate}
 use Rattle.std.proofs.lemmas.Bool.{and_cases, and_from, and_parts, both_ways, cases_lt, eqb-true}
@@ -13,7 +13,7 @@ use Rattle.sheet.specs.declared.layout.Layout.{Layout}
 use Rattle.sheet.proofs.Opponents.{hostile_symmetric}
 use Rattle.block.specs.Meaning.{Meaning, is_out, any_out, with_out, with_whole}
 use Rattle.board.specs.Answers.{settled}
-use Rattle.board.specs.Boards.{is_trailed, demanded, elsewhere, plus_point, is_normal, thrown, toward, is_held, is_cleared, is_run, is_spent, released, is_clear, is_pulled, dropped, fresh, point_at, stage_at, arm_at, lever_at, lever_of, route_of, is_set, claims, serves, fell}
+use Rattle.board.specs.Boards.{is_trailed, demanded, elsewhere, plus_point, is_normal, thrown, toward, is_held, is_cleared, is_run, is_spent, released, is_clear, is_pulled, dropped, fresh, point_at, stage_at, arm_at, lever_at, lever_of, route_of, is_set, claims, serves}
 use Rattle.board.specs.Calls.{is_locked, hinders_at, obstacle_of, fails_at, failure_of, set_route_of, pull_for, pulled_for, set_changed, normal_changed}
 use Rattle.board.specs.declared.answer.Answer.{Answer}
 use Rattle.board.specs.declared.answer.Answer.TheVariants.{Accepted, Refused}

@@ -3,7 +3,6 @@ use Rattle.std.specs.Prelude.{ℕ, cond, Some, None, Option, ◌==◌}
 use Rattle.board.specs.Answers.{answer_number, answer_place, refuse}
 use Rattle.board.specs.declared.answer.FrameFault.TheVariants.{UnknownCall}
 use Rattle.board.specs.declared.answer.Answer.{Answer}
-use Rattle.board.specs.declared.answer.Answer.TheVariants.{Accepted, Refused}
 use Rattle.frame.specs.declared.call.Call.{Call}
 use Rattle.frame.specs.declared.call.Call.TheVariants.{Give, Throw, Trail, Recouple, Set, Hold, Pull, Restore, Contact, Release, Normal, Return, Cut, Mend}
 use Rattle.frame.specs.declared.entry.Entry.{Entry}

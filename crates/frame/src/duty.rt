@@ -35,8 +35,8 @@ pub fn law_stands() -> u8
 impl<B: Block> Frame<B> {
     // Works one entry, and writes its answer and place into it.
     fn work_entry(&mut self, entry: &mut Entry)
-        ensures noted { entry.new ≡ noted entry.old (entry_answer entry.old (view meaning self.old)) }
-        ensures after { view meaning self.new ≡ entry_after entry.old (view meaning self.old) }
+        ensures noted { entry.new ≡ noted entry.old (entry_answer entry.old (view B.meaning self.old)) }
+        ensures after { view B.meaning self.new ≡ entry_after entry.old (view B.meaning self.old) }
     {
         let answer = match Call::from_letter(entry.letter) {
             Some(call) => self.work(call, entry.number),
@@ -48,7 +48,7 @@ impl<B: Block> Frame<B> {
 
     // Works the entries of a list in their order.
     fn work_all(&mut self, entries: &mut [Entry])
-        ensures { Runs meaning entries.old entries.new self.old self.new }
+        ensures { Runs B.meaning entries.old entries.new self.old self.new }
     {
         for entry in entries.iter_mut() {
             self.work_entry(entry);
@@ -57,14 +57,14 @@ impl<B: Block> Frame<B> {
 
     /// Works a list: each entry gets its answer and place written into it, and its letter and number stay.
     pub fn run(&mut self, entries: &mut [Entry])
-        ensures { Runs meaning entries.old entries.new self.old self.new }
+        ensures { Runs B.meaning entries.old entries.new self.old self.new }
     {
         self.work_all(entries);
     }
 
     // A loading and, where it is accepted, a list.
     fn load_and_run(&mut self, plan: Plan, entries: &mut [Entry]) -> Answer
-        ensures { Serves meaning plan entries.old entries.new self.old self.new result }
+        ensures { Serves B.meaning plan entries.old entries.new self.old self.new result }
     {
         let answer = self.load(plan);
         if let Answer::Accepted = answer {
@@ -75,7 +75,7 @@ impl<B: Block> Frame<B> {
 
     /// A duty: loads a plan and, where that is accepted, works a list. Where it is refused, all stays as it is.
     pub fn duty(&mut self, plan: Plan, entries: &mut [Entry]) -> Answer
-        ensures { Serves meaning plan entries.old entries.new self.old self.new result }
+        ensures { Serves B.meaning plan entries.old entries.new self.old self.new result }
     {
         self.load_and_run(plan, entries)
     }

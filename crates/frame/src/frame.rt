@@ -50,8 +50,8 @@ impl<B: Block> Frame<B> {
 
     // A plan is put in where no test refuses it.
     fn put_in(&mut self, plan: Plan) -> Answer
-        ensures answer { result ≡ load_answer plan.layout (view meaning self.old) }
-        ensures after { view meaning self.new ≡ load_after plan.layout (view meaning self.old) }
+        ensures answer { result ≡ load_answer plan.layout (view B.meaning self.old) }
+        ensures after { view B.meaning self.new ≡ load_after plan.layout (view B.meaning self.old) }
     {
         if self.plan.counts().routes > 0 {
             return Answer::Refused(Fault::Frame(FrameFault::AlreadyLoaded), 0);
@@ -72,21 +72,21 @@ impl<B: Block> Frame<B> {
 
     // A duty begins with it.
     fn begin(&mut self, plan: Plan) -> Answer
-        ensures { Loads meaning plan self.old self.new result }
+        ensures { Loads B.meaning plan self.old self.new result }
     {
         self.put_in(plan)
     }
 
     /// Loads a plan into a frame without one, over a block with lines for it and no consent out. A duty begins with it.
     pub fn load(&mut self, plan: Plan) -> Answer
-        ensures { Loads meaning plan self.old self.new result }
+        ensures { Loads B.meaning plan self.old self.new result }
     {
         self.begin(plan)
     }
 
     /// Gives a route's consent, unless that of a hostile route is out.
     pub fn give(&mut self, r: usize) -> Answer
-        ensures { Works meaning Give r self.old self.new result }
+        ensures { Works B.meaning Give r self.old self.new result }
     {
         if r >= self.plan.counts().routes {
             return Answer::Refused(Fault::Frame(FrameFault::NoSuchNumber), r);
@@ -97,28 +97,28 @@ impl<B: Block> Frame<B> {
 
     /// Throws a point to its other position.
     pub fn throw(&mut self, p: usize) -> Answer
-        ensures { Works meaning Throw p self.old self.new result }
+        ensures { Works B.meaning Throw p self.old self.new result }
     {
         self.board.throw(&self.plan, p)
     }
 
     /// A point has been trailed.
     pub fn trail(&mut self, p: usize) -> Answer
-        ensures { Works meaning Trail p self.old self.new result }
+        ensures { Works B.meaning Trail p self.old self.new result }
     {
         self.board.trail(&self.plan, p)
     }
 
     /// Couples a trailed point again.
     pub fn recouple(&mut self, p: usize) -> Answer
-        ensures { Works meaning Recouple p self.old self.new result }
+        ensures { Works B.meaning Recouple p self.old self.new result }
     {
         self.board.recouple(&self.plan, p)
     }
 
     /// Sets a route whose consent is out and whose points stand right.
     pub fn set(&mut self, r: usize) -> Answer
-        ensures { Works meaning Set r self.old self.new result }
+        ensures { Works B.meaning Set r self.old self.new result }
     {
         let out = self.block.is_out(r);
         self.board.set(&self.plan, out, r)
@@ -126,35 +126,35 @@ impl<B: Block> Frame<B> {
 
     /// Holds the field of a set route.
     pub fn hold(&mut self, r: usize) -> Answer
-        ensures { Works meaning Hold r self.old self.new result }
+        ensures { Works B.meaning Hold r self.old self.new result }
     {
         self.board.hold(&self.plan, r)
     }
 
     /// Pulls a signal lever.
     pub fn pull(&mut self, g: usize) -> Answer
-        ensures { Works meaning Pull g self.old self.new result }
+        ensures { Works B.meaning Pull g self.old self.new result }
     {
         self.board.pull(&self.plan, g)
     }
 
     /// Puts a signal lever back to normal.
     pub fn restore(&mut self, g: usize) -> Answer
-        ensures { Works meaning Restore g self.old self.new result }
+        ensures { Works B.meaning Restore g self.old self.new result }
     {
         self.board.restore(&self.plan, g)
     }
 
     /// The last axle has left the isolated rail of a route.
     pub fn contact(&mut self, r: usize) -> Answer
-        ensures { Works meaning Contact r self.old self.new result }
+        ensures { Works B.meaning Contact r self.old self.new result }
     {
         self.board.contact(&self.plan, r)
     }
 
     /// Releases a route's field.
     pub fn release(&mut self, r: usize) -> Answer
-        ensures { Works meaning Release r self.old self.new result }
+        ensures { Works B.meaning Release r self.old self.new result }
     {
         let whole = self.block.is_whole();
         self.board.release(&self.plan, whole, r)
@@ -162,14 +162,14 @@ impl<B: Block> Frame<B> {
 
     /// Puts the lever of a set route back to normal.
     pub fn normal(&mut self, r: usize) -> Answer
-        ensures { Works meaning Normal r self.old self.new result }
+        ensures { Works B.meaning Normal r self.old self.new result }
     {
         self.board.normal(&self.plan, r)
     }
 
     /// Returns the consent of a route that is not set.
     pub fn take_back(&mut self, r: usize) -> Answer
-        ensures { Works meaning Return r self.old self.new result }
+        ensures { Works B.meaning Return r self.old self.new result }
     {
         if r >= self.plan.counts().routes {
             return Answer::Refused(Fault::Frame(FrameFault::NoSuchNumber), r);
@@ -186,21 +186,21 @@ impl<B: Block> Frame<B> {
 
     /// The line is cut.
     pub fn cut(&mut self) -> Answer
-        ensures { Works meaning Cut 0 self.old self.new result }
+        ensures { Works B.meaning Cut 0 self.old self.new result }
     {
         Answer::from_block(self.block.cut(), 0)
     }
 
     /// The line is whole again.
     pub fn mend(&mut self) -> Answer
-        ensures { Works meaning Mend 0 self.old self.new result }
+        ensures { Works B.meaning Mend 0 self.old self.new result }
     {
         Answer::from_block(self.block.mend(), 0)
     }
 
     // By its name; a cut and a mend have no number.
     fn dispatch(&mut self, call: Call, n: usize) -> Answer
-        ensures { Works meaning call n self.old self.new result }
+        ensures { Works B.meaning call n self.old self.new result }
     {
         match call {
             Call::Give => self.give(n),
@@ -222,16 +222,16 @@ impl<B: Block> Frame<B> {
 
     // Every duty goes on by it.
     fn go_on(&mut self, call: Call, n: usize) -> Answer
-        ensures works { Works meaning call n self.old self.new result }
-        ensures law { GoesOn (view meaning self.old) (called call n result ∷ []) (view meaning self.new) }
+        ensures works { Works B.meaning call n self.old self.new result }
+        ensures law { GoesOn (view B.meaning self.old) (called call n result ∷ []) (view B.meaning self.new) }
     {
         self.dispatch(call, n)
     }
 
     /// Works a call by its name, with its number. Every duty goes on by it.
     pub fn work(&mut self, call: Call, n: usize) -> Answer
-        ensures works { Works meaning call n self.old self.new result }
-        ensures law { GoesOn (view meaning self.old) (called call n result ∷ []) (view meaning self.new) }
+        ensures works { Works B.meaning call n self.old self.new result }
+        ensures law { GoesOn (view B.meaning self.old) (called call n result ∷ []) (view B.meaning self.new) }
     {
         self.go_on(call, n)
     }

@@ -12,14 +12,14 @@ use board::board::{Arm, Lever, Point, Stage};
 impl<B: Block> Frame<B> {
     /// Whether a plan is loaded.
     pub fn is_loaded(&self) -> bool
-        ensures { result ≡ is_loaded (view meaning self.now) }
+        ensures { result ≡ is_loaded (view B.meaning self.now) }
     {
         self.plan.counts().routes > 0
     }
 
     /// How a point stands.
     pub fn point(&self, p: usize) -> Option<Point>
-        ensures { result ≡ point_shown (view meaning self.now) p }
+        ensures { result ≡ point_shown (view B.meaning self.now) p }
     {
         if p < self.plan.counts().points {
             Some(self.board.points[p])
@@ -30,7 +30,7 @@ impl<B: Block> Frame<B> {
 
     /// How a route lever stands.
     pub fn lever(&self, v: usize) -> Option<Lever>
-        ensures { result ≡ lever_shown (view meaning self.now) v }
+        ensures { result ≡ lever_shown (view B.meaning self.now) v }
     {
         if v < self.plan.counts().levers {
             Some(self.board.levers[v])
@@ -41,7 +41,7 @@ impl<B: Block> Frame<B> {
 
     /// How far a route's field has come.
     pub fn field(&self, r: usize) -> Option<Stage>
-        ensures { result ≡ field_shown (view meaning self.now) r }
+        ensures { result ≡ field_shown (view B.meaning self.now) r }
     {
         if r < self.plan.counts().routes {
             Some(self.board.fields[r])
@@ -52,7 +52,7 @@ impl<B: Block> Frame<B> {
 
     /// How a signal lever and its arm stand.
     pub fn arm(&self, g: usize) -> Option<Arm>
-        ensures { result ≡ arm_shown (view meaning self.now) g }
+        ensures { result ≡ arm_shown (view B.meaning self.now) g }
     {
         if g < self.plan.counts().signals {
             Some(self.board.signals[g])
@@ -80,14 +80,14 @@ impl<B: Block> Frame<B> {
 
     /// Whether a route's consent is out.
     pub fn is_out(&self, r: usize) -> bool
-        ensures { result ≡ is_out (meaning self.now.block) r }
+        ensures { result ≡ is_out (B.meaning self.now.block) r }
     {
         self.block.is_out(r)
     }
 
     /// Whether the block's line is whole.
     pub fn is_whole(&self) -> bool
-        ensures { result ≡ (meaning self.now.block).whole }
+        ensures { result ≡ (B.meaning self.now.block).whole }
     {
         self.block.is_whole()
     }

@@ -1,4 +1,5 @@
 //! Tests of the frame: the worked duty by calls and as a list, over both makes of block, and what a loading refuses.
+#![tactic(auto)]
 
 #[cfg(test)]
 mod tests {

@@ -1,4 +1,6 @@
 //! Reads a duty from the standard input and prints its record.
+#![tactic(auto)]
+
 use listing::record::listing;
 use std::io;
 use std::io::Read;

@@ -1,9 +1,9 @@
 -- A plan with routes is accepted over a fresh block.
-use Rattle.std.proofs.Common.{◌≡◌, ℕ, ◌<◌, ◌≤◌, true, false, eqb, ltb, List, take, sym, refl, ◌∙◌, arith, lit≤}
+use Rattle.std.proofs.Common.{◌≡◌, ℕ, ◌<◌, ◌≤◌, false, eqb, ltb, List, take, refl, ◌∙◌, arith, lit≤}
 use Rattle.std.proofs.lemmas.Bool.{le-ltb, ne_eqb}
 use Rattle.sheet.specs.Layouts.{blank_layout}
 use Rattle.sheet.specs.declared.layout.Layout.{Layout}
-use Rattle.block.specs.Meaning.{WellFormed, any_out, fresh_block}
+use Rattle.block.specs.Meaning.{any_out, fresh_block}
 use Rattle.board.specs.declared.answer.Answer.{Answer}
 use Rattle.board.specs.declared.answer.Answer.TheVariants.{Accepted}
 use Rattle.board.specs.Boards.{fresh}

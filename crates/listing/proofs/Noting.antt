@@ -7,7 +7,6 @@ use Rattle.std.proofs.lemmas.Bool.Decides.{nat_tests}
 use Rattle.basics.proofs.Adds.{count_joined, count_none, count-one, rows_joined, rows_none, rows_one}
 use Rattle.basics.specs.Books.{add_answer, count_after, count_with, rows_after, rows_with}
 use Rattle.basics.specs.declared.book.BookFault.{BookFault}
-use Rattle.basics.specs.declared.book.BookFault.TheVariants.{Full}
 use Rattle.frame.specs.declared.entry.Entry.{Entry}
 use Rattle.text.proofs.Newlines.{split}
 use Rattle.text.specs.Lines.{after_first_line, first_line, length_of_line}

@@ -1,4 +1,5 @@
 //! What the duty program prints for the bytes of its input.
+#![tactic(auto)]
 
 mod calls;
 mod lines;

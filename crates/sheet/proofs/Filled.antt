@@ -1,5 +1,5 @@
 -- Rows that are filled item by item, and zeros that are passed one by one.
-use Rattle.std.proofs.Common.{◌≡◌, ℕ, zero, suc, ◌+◌, ◌-◌, ◌<◌, ◌≤◌, true, false, eqb, List, set, arith}
+use Rattle.std.proofs.Common.{◌≡◌, ℕ, suc, ◌+◌, ◌-◌, ◌<◌, true, false, eqb, List, set, arith}
 use Rattle.std.proofs.lemmas.Bool.{eq-eqb, ne_eqb}
 use Rattle.sheet.specs.Bits.{Read, done, fault, bit_of}
 use Rattle.sheet.specs.Fields.{fill, zeros_at}

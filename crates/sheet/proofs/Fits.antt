@@ -1,10 +1,10 @@
 -- Each part of a sheet that was read is the bits that its value is written with.
-use Rattle.std.proofs.Common.{◌≡◌, ℕ, zero, suc, ◌+◌, ◌-◌, ◌*◌, ◌/◌, ◌%◌, ◌^◌, ◌<◌, ◌≤◌, Bool, true, false, cond, ◌&&◌, eqb, ltb, leb, ◌≢◌, List, [], ◌∷◌, ◌++◌, length, get_or, take, set, replicate, sym, refl, ap, ◌∙◌, subst, arith}
+use Rattle.std.proofs.Common.{◌≡◌, ℕ, zero, suc, ◌+◌, ◌-◌, ◌*◌, ◌^◌, ◌<◌, ◌≤◌, Bool, false, cond, ◌&&◌, eqb, ltb, leb, ◌≢◌, List, ◌++◌, length, get_or, set, replicate, sym, refl, ap, ◌∙◌, subst, arith}
 use Rattle.std.proofs.lemmas.Bool.{and_parts, leb-true, eqb-true}
 use Rattle.std.proofs.lemmas.List.{length-set, get_or-set_same, get_or-set_other}
 use Rattle.sheet.specs.Bits.{Read, done, fault, next, field_at}
 use Rattle.sheet.specs.Fields.{edition_at, count_at, counts_at, number_at, demand_at, flag_at, side_at, release_at, fill, demands_at, named_at, route_at}
-use Rattle.sheet.specs.Encode.{bits_of, side_code, release_code, demand_code, flag_code, each, counts_bits, demand_bits, named_bits, route_bits}
+use Rattle.sheet.specs.Encode.{bits_of, side_code, release_code, demand_code, each, counts_bits, demand_bits, named_bits, route_bits}
 use Rattle.sheet.specs.declared.fault.Flaw.TheVariants.{WrongEdition, CountOutside, NumberTooHigh, BadPointCode}
 use Rattle.sheet.specs.declared.layout.Side.{Side}
 use Rattle.sheet.specs.declared.layout.Side.TheVariants.{Up, Down}
@@ -14,7 +14,7 @@ use Rattle.sheet.specs.declared.layout.Demand.{Demand}
 use Rattle.sheet.specs.declared.layout.Demand.TheVariants.{Nothing, Plus, Minus}
 use Rattle.sheet.specs.declared.layout.Counts.{Counts}
 use Rattle.sheet.specs.declared.layout.Route.{Route}
-use Rattle.sheet.proofs.Took.{Took, took_none, took_append, Went, went, kept, field_took, done_parts}
+use Rattle.sheet.proofs.Took.{Took, took_none, took_append, went, kept, field_took, done_parts}
 
 -- the same taking, with another name for its end and its bits
 pub took_at : {s ds es : List ℕ} {i j k : ℕ} {xs ys : List ℕ} → Took s ds i j xs → ds ≡ es → j ≡ k → xs ≡ ys → Took s es i k ys

@@ -1,7 +1,6 @@
 -- Hostility, from its tests, and that it is the same both ways.
-use Rattle.std.proofs.Common.{◌≡◌, ℕ, zero, suc, ◌<◌, ◌≤◌, Bool, true, false, not, ◌&&◌, ◌||◌, eqb, ltb, sym, refl, ap, ◌∙◌, ⊎_elim}
+use Rattle.std.proofs.Common.{◌≡◌, ℕ, zero, suc, ◌<◌, Bool, true, false, not, ◌&&◌, ◌||◌, eqb, ltb, sym, refl, ◌∙◌, ⊎_elim}
 use Rattle.std.proofs.lemmas.Bool.{eq-eqb, ne_eqb, lt-ltb, le-ltb, cases_eq, cases_lt, and_left, and_right}
-use Rattle.basics.specs.Scan.{any}
 use Rattle.sheet.specs.Layouts.{route_in, demand_of}
 use Rattle.sheet.specs.Hostility.{opposed, clashing, named_at_route, opponents, are_hostile}
 use Rattle.sheet.specs.declared.layout.Demand.{Demand}

@@ -1,7 +1,7 @@
 -- Bits that are pushed in eight by eight are the bytes that they make.
-use Rattle.std.proofs.Common.{◌≡◌, ℕ, zero, suc, ◌+◌, ◌-◌, ◌*◌, ◌/◌, ◌%◌, ◌^◌, ◌<◌, ◌≤◌, List, [], ◌∷◌, ◌++◌, length, get_or, drop, set, replicate, sym, refl, ap, ◌∙◌, arith}
+use Rattle.std.proofs.Common.{◌≡◌, ℕ, zero, suc, ◌+◌, ◌-◌, ◌*◌, ◌/◌, ◌%◌, ◌^◌, ◌<◌, ◌≤◌, List, [], ◌∷◌, ◌++◌, length, get_or, drop, set, replicate, sym, ap, ◌∙◌, arith}
 use Rattle.std.proofs.lemmas.Nat.{mod_below}
-use Rattle.std.proofs.lemmas.List.{get_or_at, set_at, append_assoc, length-append, length_push}
+use Rattle.std.proofs.lemmas.List.{get_or_at, set_at, append_assoc, length_push}
 use Rattle.sheet.specs.Encode.{bits_of, each, pack}
 use Rattle.sheet.specs.Writing.{put}
 

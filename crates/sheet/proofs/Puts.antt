@@ -1,6 +1,6 @@
 -- Bits that are written one after the other.
-use Rattle.std.proofs.Common.{◌≡◌, ℕ, zero, suc, ◌+◌, ◌-◌, ◌*◌, ◌/◌, ◌%◌, ◌^◌, ◌<◌, ◌≤◌, List, [], ◌∷◌, ◌++◌, length, get_or, set, sym, refl, ap, ◌∙◌, add-zero, suc-mul, arith}
-use Rattle.std.proofs.lemmas.List.{length-append, length-set}
+use Rattle.std.proofs.Common.{◌≡◌, ℕ, zero, suc, ◌+◌, ◌-◌, ◌*◌, ◌/◌, ◌%◌, ◌^◌, ◌<◌, List, [], ◌∷◌, ◌++◌, length, get_or, set, refl, ap, ◌∙◌, add-zero, suc-mul, arith}
+use Rattle.std.proofs.lemmas.List.{length-append}
 use Rattle.sheet.specs.Encode.{bits_of, each, demand_bits, named_bits, route_bits}
 use Rattle.sheet.specs.Writing.{put, Wrote}
 use Rattle.sheet.specs.declared.layout.Counts.{Counts}

@@ -1,5 +1,5 @@
 -- The round trip: an accepted sheet is the sheet of its plan, and a plan's sheet says that plan.
-use Rattle.std.proofs.Common.{◌≡◌, ℕ, zero, suc, ◌+◌, ◌-◌, ◌*◌, ◌/◌, ◌%◌, ◌^◌, ◌<◌, ◌≤◌, Bool, true, false, cond, eqb, ltb, leb, ◌⊎◌, List, [], ◌∷◌, ◌++◌, length, get_or, take, drop, replicate, sym, refl, ap, ◌∙◌, subst, inl, inr, arith}
+use Rattle.std.proofs.Common.{◌≡◌, ℕ, zero, suc, ◌+◌, ◌-◌, ◌*◌, ◌/◌, ◌%◌, ◌<◌, ◌≤◌, Bool, true, false, cond, eqb, ltb, leb, List, [], ◌∷◌, ◌++◌, length, take, drop, replicate, sym, refl, ap, ◌∙◌, subst, inl, inr, arith}
 use base.Stored.{Coded-set, coded_ℕ}
 use mathlib.Core.Logic.{∥∥₁_elim}
 use Rattle.std.proofs.lemmas.List.{take_all, take_at, length-take-le}
@@ -8,7 +8,7 @@ use Rattle.sheet.specs.Bits.{Bytes, Read, done, fault, next, bit_of}
 use Rattle.sheet.specs.Fields.{edition_at, counts_at, route_at, routes_at, zeros_at, filling_at, layout_at}
 use Rattle.sheet.specs.Layouts.{no_route}
 use Rattle.sheet.specs.Rules.{lowest_broken}
-use Rattle.sheet.specs.Decode.{Outcome-set, Outcome, accepted, refused, refuse, ruled, settled, decode}
+use Rattle.sheet.specs.Decode.{Outcome-set, accepted, refuse, ruled, settled, decode}
 use Rattle.sheet.specs.Encode.{encode, filled, pack, sheet_of, routes_bits, route_bits}
 use Rattle.sheet.specs.Valid.{Sound}
 use Rattle.sheet.specs.Writing.{wrote, writing}

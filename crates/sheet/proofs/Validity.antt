@@ -1,10 +1,10 @@
 -- What a layout that has passed the rules keeps.
-use Rattle.std.proofs.Common.{◌≡◌, ℕ, ◌+◌, ◌<◌, ◌≤◌, Bool, true, false, not, ◌&&◌, eqb, ◌⊎◌, List, [], length, set, Some, None, Option, sym, refl, ap, ◌∙◌, subst, inl, inr, ⊎_elim, arith}
+use Rattle.std.proofs.Common.{◌≡◌, ℕ, ◌+◌, ◌<◌, true, false, List, [], length, set, Some, None, Option, sym, refl, ap, ◌∙◌, subst, ⊎_elim, arith}
 use Rattle.std.proofs.lemmas.List.{get_or-set_same, get_or-set_other}
 use Rattle.std.proofs.lemmas.Bool.{cases_eq, cases_order, eq-eqb, not-false}
 use Rattle.sheet.specs.Layouts.{route_in, same_side}
 use Rattle.sheet.specs.Rules.{alike, shared, has_lever, has_signal, broken, lowest_broken}
-use Rattle.sheet.specs.Decode.{Outcome, accepted, refused, refuse, ruled}
+use Rattle.sheet.specs.Decode.{Outcome, accepted, refuse, ruled}
 use Rattle.sheet.specs.Valid.{WithinTo, Apart, LeversServed, SignalsServed}
 use Rattle.sheet.specs.declared.rules.PlanRule.{PlanRule}
 use Rattle.sheet.specs.declared.rules.PlanRule.TheVariants.{OneRouteASide, LeversServe, SignalsServe}

@@ -1,6 +1,6 @@
 -- The sheet of a plan: the layout the other way round.
 use Rattle.std.specs.Prelude.{ℕ, zero, suc, ◌+◌, ◌-◌, ◌*◌, ◌/◌, ◌%◌, ◌^◌, Bool, false, cond, List, [], ◌∷◌, ◌++◌, length, replicate, slice_index_or}
-use Rattle.sheet.specs.Layouts.{route_in, demand_of}
+use Rattle.sheet.specs.Layouts.{route_in}
 use Rattle.sheet.specs.declared.layout.Side.{Side}
 use Rattle.sheet.specs.declared.layout.Side.TheVariants.{Up, Down}
 use Rattle.sheet.specs.declared.layout.Release.{Release}

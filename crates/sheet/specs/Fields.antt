@@ -1,5 +1,5 @@
 -- The fields of a sheet, each at bit i: first whether it is whole, then whether its value is one that it may have.
-use Rattle.std.specs.Prelude.{ℕ, zero, suc, ◌+◌, ◌-◌, ◌*◌, ◌/◌, Bool, true, false, cond, ◌&&◌, List, length, replicate, ◌==◌, nat_le, nat_lt, slice_set}
+use Rattle.std.specs.Prelude.{ℕ, zero, suc, ◌+◌, ◌-◌, ◌*◌, ◌/◌, Bool, false, cond, ◌&&◌, List, length, replicate, ◌==◌, nat_le, nat_lt, slice_set}
 use Rattle.sheet.specs.Bits.{Read, done, fault, next, bit_of, field_at}
 use Rattle.sheet.specs.Layouts.{no_route}
 use Rattle.sheet.specs.declared.fault.Flaw.TheVariants.{WrongEdition, CountOutside, NumberTooHigh, BadPointCode, BadFilling}

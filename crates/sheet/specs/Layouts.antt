@@ -6,7 +6,6 @@ use Rattle.sheet.specs.declared.layout.Release.TheVariants.{Station}
 use Rattle.sheet.specs.declared.layout.Demand.{Demand}
 use Rattle.sheet.specs.declared.layout.Demand.TheVariants.{Nothing}
 use Rattle.sheet.specs.declared.layout.Route.{Route}
-use Rattle.sheet.specs.declared.layout.Counts.{Counts}
 use Rattle.sheet.specs.declared.layout.Layout.{Layout}
 
 -- route r of a row of routes

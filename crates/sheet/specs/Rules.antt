@@ -1,5 +1,5 @@
 -- The rules of a whole plan: no two routes on one lever and side, and no lever and no signal without a route.
-use Rattle.std.specs.Prelude.{ℕ, Bool, not, ◌&&◌, Some, None, Option, ◌==◌, nat_eq}
+use Rattle.std.specs.Prelude.{ℕ, Bool, not, ◌&&◌, Option, ◌==◌, nat_eq}
 use Rattle.basics.specs.Scan.{any, lowest}
 use Rattle.sheet.specs.Layouts.{route_in, same_side}
 use Rattle.sheet.specs.declared.fault.Flaw.{Flaw}

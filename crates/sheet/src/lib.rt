@@ -1,4 +1,5 @@
 //! Plan sheets: what a plan says, and how a sheet of bytes is read into one.
+#![tactic(auto)]
 
 // A reading's value, or back to the caller with its fault: `?` written out, for functions where many follow one another.
 macro_rules! take {

@@ -1,4 +1,5 @@
 //! Sheets with what is said of them, found by a reader of its own in another language.
+#![tactic(auto)]
 
 mod books;
 

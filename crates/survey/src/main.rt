@@ -1,4 +1,6 @@
 //! For planners: reads a sheet in hex from the standard input and says all that is wrong with it.
+#![tactic(auto)]
+
 mod report;
 mod words;
 

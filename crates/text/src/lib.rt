@@ -1,4 +1,5 @@
 //! Text work that the programs share: lines, a sheet in hex, numbers in decimal.
+#![tactic(auto)]
 
 mod hex;
 pub mod input;

@@ -2,7 +2,7 @@
 use mathlib.Core.List.{List, [], ◌∷◌, ◌++◌, map}
 use mathlib.Core.Path.{◌≡◌, refl}
 use lib.ListN.{take}
-use Rattle.sheet.specs.Decode.{accepted, decode}
+use Rattle.sheet.specs.Decode.{decode}
 use Rattle.sheet.specs.Hostility.{are_hostile, hostiles_of}
 use Rattle.sheet.specs.Worked.{answers, answer_of, copies}
 use Rattle.block.specs.Meaning.{any_out}

@@ -1,4 +1,6 @@
 //! The worked duty of the documents, for tests and trials.
+#![tactic(auto)]
+
 ghost use Rattle.std.specs.Prelude.{◌≡◌};
 ghost use Rattle.worked.specs.Worked.{ExamplesStand, worked_duty};
 

@@ -7,7 +7,7 @@ use Rattle.sheet.proofs.hostility.hostile_members.Goals as goal
 pub loop-q-preserved : goal.loop-q-preserved
 loop-q-preserved c = (
   simp length-set c.loop-q.invariant.0,
-  rw c.are-hostile.ensures.value (fill_by_more (are_hostile c.args.layout.now c.args.r) c.loop-q.members c.loop-q.q false (omega arith) c.loop-q.invariant.1),
+  rw c.are_hostile.ensures.value (fill_by_more (are_hostile c.args.layout.now c.args.r) c.loop-q.members c.loop-q.q false (omega arith) c.loop-q.invariant.1),
 )
 
 pub returns : goal.returns

@@ -1,4 +1,14 @@
 use Rattle.sheet.proofs.reader.read.Goals as goal
 
-pub invariant-of-result : goal.invariant-of-result
-invariant-of-result c = let v = c.in-Ok.ensures.valid in (v.few, (v.bare, (v.within, (v.apart, (v.levers, (v.signals, (v.sound, tt)))))))
+pub invariant_of-result : goal.invariant_of-result
+invariant_of-result c =
+    let v = c.in-Ok.ensures.valid in
+    record {
+      few = v.few;
+      bare = v.bare;
+      within = v.within;
+      apart = v.apart;
+      levers_served = v.levers;
+      signals_served = v.signals;
+      sound = v.sound;
+    }

@@ -1,4 +1,4 @@
-use Rattle.std.proofs.Common.{◌≡◌, sym, ◌∙◌, inr, arith}
+use Rattle.std.proofs.Common.{sym, ◌∙◌, inr, arith}
 use Rattle.sheet.proofs.Reading.{decode_done, decode_fault}
 use Rattle.sheet.proofs.Round.{round_trip}
 use Rattle.sheet.proofs.Validity.{passed, apart, levers_served_lem, signals_served_lem}
@@ -29,7 +29,7 @@ returns c =
         apart = apart _ p;
         levers = levers_served_lem _ p;
         signals = signals_served_lem _ p;
-        sound = ∣ inr (c.args.sheet.now, (λ i. omega (arith, c.type-inv.sheet i)), sym e) ∣₁;
+        sound = ∣ inr (c.args.sheet.now, (λ i. omega (arith, c.type_inv.sheet i)), sym e) ∣₁;
       };
-      again = round_trip c.args.sheet.now c.in-Ok.value (λ i. omega (arith, c.type-inv.sheet i)) (sym e);
+      again = round_trip c.args.sheet.now c.in-Ok.value (λ i. omega (arith, c.type_inv.sheet i)) (sym e);
     }

@@ -1,4 +1,4 @@
-use Rattle.std.proofs.Common.{eqb, sym, arith, rules}
+use Rattle.std.proofs.Common.{eqb, sym, arith}
 use Rattle.std.proofs.lemmas.Bool.{eq-eqb, ne_eqb}
 use Rattle.sheet.specs.Layouts.{route_in}
 use Rattle.basics.proofs.Scans.{any_more, any_hit}

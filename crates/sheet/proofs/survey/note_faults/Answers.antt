@@ -10,7 +10,7 @@ returns-in-Ok c =
     let n = c.args.book.now.count in
     let f = faults_done _ _ _ c.new-bits.ensures.sheet c.new-bits.ensures.start _ _ _ c.in-Ok.ensures.value in
     let a = agreeing c.args.sheet.now in
-    let o = c.note-rules.ensures.onward xs n [] (sym (rows_none xs n), sym (count_none xs n)) in
+    let o = c.note_rules.ensures.onward xs n [] (sym (rows_none xs n), sym (count_none xs n)) in
     search (rules, length-append)
 
 pub returns-in-Err : goal.returns-in-Err

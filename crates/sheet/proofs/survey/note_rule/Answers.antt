@@ -7,7 +7,7 @@ use Rattle.sheet.specs.declared.fault.SheetFault.{SheetFault}
 use Rattle.basics.proofs.Adds.{rows_none, count_none, rows_then, count_then}
 use Rattle.sheet.proofs.Breaches.{breach_more, breach_none, extent_few}
 use Rattle.sheet.proofs.survey.note_rule.Goals as goal
-use Rattle.sheet.proofs.survey.note_rule.Goals.{then-is-broken, else-is-broken}
+use Rattle.sheet.proofs.survey.note_rule.Goals.{then-is_broken, else-is_broken}
 
 pub loop-k-init : goal.loop-k-init
 loop-k-init c = (
@@ -24,21 +24,21 @@ loop-k-preserved c =
     let xs = c.args.book.now.rows.now in
     let n = c.args.book.now.count in
     let ys = breaches_to c.args.layout.now c.args.rule c.loop-k.k in
-    elim c.if-is-broken.branch [
-      | then-is-broken w ↦
+    elim c.if-is_broken.branch [
+      | then-is_broken w ↦
           let x : SheetFault = record { flaw = w.flaw.result; place = c.loop-k.k } in
           let e : ys ++ x ∷ [] ≡ breaches_to c.args.layout.now c.args.rule (c.loop-k.k + 1) =
           ap (λ f. ys ++ record { flaw = f; place = c.loop-k.k } ∷ []) w.flaw.ensures
-          ∙ sym (breach_more c.args.layout.now c.args.rule c.loop-k.k (sym w.if-is-broken.ensures)) in (
+          ∙ sym (breach_more c.args.layout.now c.args.rule c.loop-k.k (sym w.if-is_broken.ensures)) in (
             omega (arith, w.total-is, v.0, ap length e, length_push ys x),
             omega (arith, w.total-is, v.1),
             ap (λ b. b.rows.now) w.book-is ∙ (rows_then xs n ys (x ∷ []) _ _ _ v.2 v.3 w.note.ensures.written ∙ ap (rows_after xs n) e),
             ap (λ b. b.count) w.book-is ∙ (count_then xs n ys (x ∷ []) _ _ _ v.2 v.3 w.note.ensures.filled ∙ ap (count_after xs n) e),
             ap (λ b. b.rows.ghost_name) w.book-is ∙ (w.note.ensures.lender ∙ v.4),
           )
-      | else-is-broken w ↦
+      | else-is_broken w ↦
           let e : ys ≡ breaches_to c.args.layout.now c.args.rule (c.loop-k.k + 1) =
-          sym (breach_none c.args.layout.now c.args.rule c.loop-k.k (sym w.if-is-broken.ensures)) in (
+          sym (breach_none c.args.layout.now c.args.rule c.loop-k.k (sym w.if-is_broken.ensures)) in (
             w.total-is ∙ (v.0 ∙ ap length e),
             omega (arith, w.total-is, v.1),
             ap (λ b. b.rows.now) w.book-is ∙ (v.2 ∙ ap (rows_after xs n) e),

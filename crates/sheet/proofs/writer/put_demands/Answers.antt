@@ -13,4 +13,4 @@ pub loop-k-preserved : goal.loop-k-preserved
 loop-k-preserved c =
     let e = each_more (demand_bits c.args.row.now) c.args.points c.loop-k.k (omega arith) in
     let w = c.put.ensures.wrote in
-    (going_more {xs = demand_bits c.args.row.now c.loop-k.k} (rw e at c.loop-k.invariant.0) (rw c.demand_code_lem.ensures at w), c.put.ensures.same ∙ c.loop-k.invariant.1)
+    (going_more {xs = demand_bits c.args.row.now c.loop-k.k} (rw e at c.loop-k.invariant.0) (rw c.demand_code.ensures at w), c.put.ensures.same ∙ c.loop-k.invariant.1)

@@ -1,4 +1,4 @@
-use Rattle.std.proofs.Common.{◌≡◌, ◌+◌, ◌-◌}
+use Rattle.std.proofs.Common.{◌≡◌, ◌-◌}
 use Rattle.sheet.specs.Encode.{each, demand_bits}
 use Rattle.sheet.proofs.Puts.{Going}
 use Rattle.sheet.proofs.writer.put_demands.Given as goal

@@ -1,16 +1,16 @@
-use Rattle.std.proofs.Common.{◌≡◌, ◌+◌, ◌-◌, arith}
+use Rattle.std.proofs.Common.{◌+◌, ◌-◌, arith}
 use Rattle.std.proofs.lemmas.List.{length-append}
 use Rattle.sheet.specs.Encode.{each, demand_bits, named_bits}
 use Rattle.sheet.proofs.Puts.{wrote_append}
 use Rattle.sheet.proofs.writer.put_route.Goals as goal
 
-pub put-demands-requires : goal.put-demands-requires
-put-demands-requires c =
+pub put_demands-requires : goal.put_demands-requires
+put_demands-requires c =
     let s = length-append (each (demand_bits c.args.route.now.demands) c.args.counts.points 0) (each (named_bits c.args.route.now.named) (c.args.counts.routes - (c.args.r + 1)) (c.args.r + 1)) in
     omega arith
 
-pub put-named-requires : goal.put-named-requires
-put-named-requires c =
+pub put_named-requires : goal.put_named-requires
+put_named-requires c =
     let s = length-append (each (demand_bits c.args.route.now.demands) c.args.counts.points 0) (each (named_bits c.args.route.now.named) (c.args.counts.routes - (c.args.r + 1)) (c.args.r + 1)) in
     omega arith
 
@@ -18,9 +18,9 @@ pub returns : goal.returns
 returns c = record {
   wrote =
       wrote_append c.put.ensures.wrote
-      (wrote_append (rw c.side_code_lem.ensures at c.put-2.ensures.wrote)
+      (wrote_append (rw c.side_code.ensures at c.put-2.ensures.wrote)
       (wrote_append c.put-3.ensures.wrote
-      (wrote_append (rw c.release_code_lem.ensures at c.put-4.ensures.wrote)
-      (wrote_append c.put-demands.ensures.wrote c.put-named.ensures.wrote))));
+      (wrote_append (rw c.release_code.ensures at c.put-4.ensures.wrote)
+      (wrote_append c.put_demands.ensures.wrote c.put_named.ensures.wrote))));
   same = (cc);
 }

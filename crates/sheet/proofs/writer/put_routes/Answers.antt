@@ -9,8 +9,8 @@ use Rattle.sheet.proofs.writer.put_routes.Goals as goal
 abbrev item : Layout → ℕ → List ℕ
 item l r = route_bits l.counts (route_in l.routes r) r
 
-pub put-route-requires : goal.put-route-requires
-put-route-requires c =
+pub put_route-requires : goal.put_route-requires
+put_route-requires c =
     let g = c.loop-k.invariant.0 in
     let n = c.args.layout.now.counts.routes in
     let k = c.loop-k.k in
@@ -21,4 +21,4 @@ put-route-requires c =
 pub loop-k-preserved : goal.loop-k-preserved
 loop-k-preserved c =
     let e = each_more (item c.args.layout.now) c.args.layout.now.counts.routes c.loop-k.k (omega arith) in
-    (going_more {xs = item c.args.layout.now c.loop-k.k} (rw e at c.loop-k.invariant.0) c.put-route.ensures.wrote, c.put-route.ensures.same ∙ c.loop-k.invariant.1)
+    (going_more {xs = item c.args.layout.now c.loop-k.k} (rw e at c.loop-k.invariant.0) c.put_route.ensures.wrote, c.put_route.ensures.same ∙ c.loop-k.invariant.1)

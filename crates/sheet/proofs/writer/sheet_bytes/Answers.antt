@@ -1,4 +1,4 @@
-use Rattle.std.proofs.Common.{◌≡◌, ℕ, ◌+◌, ◌/◌, sym, ap, ◌∙◌}
+use Rattle.std.proofs.Common.{ℕ, ◌+◌, ◌/◌, sym, ap, ◌∙◌}
 use Rattle.sheet.proofs.Sheets.{length_is_size, length_sheet}
 use Rattle.sheet.proofs.writer.sheet_bytes.Goals as goal
 

@@ -8,12 +8,12 @@ use Rattle.sheet.proofs.writer.write_layout.Goals as goal
 pub returns-then-out-bytes : goal.returns-then-out-bytes
 returns-then-out-bytes c =
     let b : eqb c.args.layout.now.counts.routes 0 ≡ false = ne_eqb _ _ c.if-layout-eq0.false in
-    let v = c.sheet-bytes-bytes.ensures.whole in
+    let v = c.sheet_bytes-bytes.ensures.whole in
     let t : leb (length (sheet_of c.args.layout.now)) (length c.args.out.now) ≡ false = lt-leb _ _ (omega arith) in
     record { written = rw (b, t); back = tt }
 
-pub put-sheet-requires : goal.put-sheet-requires
-put-sheet-requires c =
+pub put_sheet-requires : goal.put_sheet-requires
+put_sheet-requires c =
     let l = c.args.layout.now in
     let e = length_is_size l in
     let s = size_small l.counts c.requires.0 in
@@ -22,9 +22,9 @@ put-sheet-requires c =
 pub returns : goal.returns
 returns c =
     let l = c.args.layout.now in
-    let w = sheet_written l refl (omega (arith, length_sheet l)) c.put-sheet.ensures.wrote in
-    let same = c.put-sheet.ensures.same in
+    let w = sheet_written l refl (omega (arith, length_sheet l)) c.put_sheet.ensures.wrote in
+    let same = c.put_sheet.ensures.same in
     record {
-      written = written_so l c.sheet-bytes-bytes.result c.args.out.now _ c.sheet-bytes-bytes.ensures.whole c.if-out-bytes.false c.if-layout-eq0.false (search (rules, w, same));
-      back = reads_back l c.sheet-bytes-bytes.result c.args.out.now _ c.sheet-bytes-bytes.ensures.whole c.if-out-bytes.false c.if-layout-eq0.false (search (rules, w, same)) c.requires.1;
+      written = written_so l c.sheet_bytes-bytes.result c.args.out.now _ c.sheet_bytes-bytes.ensures.whole c.if-out-bytes.false c.if-layout-eq0.false (search (rules, w, same));
+      back = reads_back l c.sheet_bytes-bytes.result c.args.out.now _ c.sheet_bytes-bytes.ensures.whole c.if-out-bytes.false c.if-layout-eq0.false (search (rules, w, same)) c.requires.1;
     }

@@ -7,14 +7,14 @@ use Rattle.survey.proofs.report.report.Goals as goal
 
 pub returns-in-Some : goal.returns-in-Some
 returns-in-Some c =
-    let o : Some c.as-slice.result.now ≡ bytes_of (first_line c.args.input.now) =
-    ap (λ bs. Some bs) c.as-slice.ensures.value ∙ (sym (ap (option_map vec_items) c.in-Some.is) ∙ c.in-ok-sheet.ensures) in
-    rw (from_hex c.args.input.now (Some c.as-slice.result.now) (omega arith) o) c.sheet-report.ensures
+    let o : Some c.as_slice.result.now ≡ bytes_of (first_line c.args.input.now) =
+    ap (λ bs. Some bs) c.as_slice.ensures.value ∙ (sym (ap (option_map vec_items) c.in-Some.is) ∙ c.in_ok-sheet.ensures) in
+    rw (from_hex c.args.input.now (Some c.as_slice.result.now) (omega arith) o) c.sheet_report.ensures
 
 pub returns-in-None : goal.returns-in-None
 returns-in-None c =
-    let o : None ≡ bytes_of (first_line c.args.input.now) = sym (ap (option_map vec_items) c.in-None.is) ∙ c.in-ok-sheet.ensures in
-    rw (from_hex c.args.input.now None (omega arith) o) c.from-str-in-None.ensures.ok
+    let o : None ≡ bytes_of (first_line c.args.input.now) = sym (ap (option_map vec_items) c.in-None.is) ∙ c.in_ok-sheet.ensures in
+    rw (from_hex c.args.input.now None (omega arith) o) c.from_str-in-None.ensures.ok
 
 pub returns-then-input-gt-LIMIT : goal.returns-then-input-gt-LIMIT
-returns-then-input-gt-LIMIT c = rw (too_long c.args.input.now (omega arith)) c.from-str.ensures.ok
+returns-then-input-gt-LIMIT c = rw (too_long c.args.input.now (omega arith)) c.from_str.ensures.ok

@@ -5,7 +5,7 @@ use Rattle.survey.proofs.words.part.Goals as goal
 
 pub returns-then-bit-lt27 : goal.returns-then-bit-lt27
 unfolding part_of
-returns-then-bit-lt27 c = let t = lt-ltb c.args.bit 27 (omega arith) in rw t c.from-str.ensures.ok
+returns-then-bit-lt27 c = let t = lt-ltb c.args.bit 27 (omega arith) in rw t c.from_str.ensures.ok
 
 pub returns-in-Some : goal.returns-in-Some
 unfolding part_of
@@ -13,4 +13,4 @@ returns-in-Some c = let t = le-ltb c.args.bit 27 (omega arith) in rw (t, ← c.i
 
 pub returns-in-None : goal.returns-in-None
 unfolding part_of
-returns-in-None c = let t = le-ltb c.args.bit 27 (omega arith) in rw (t, ← c.in-None.ensures) c.from-str-in-None.ensures.ok
+returns-in-None c = let t = le-ltb c.args.bit 27 (omega arith) in rw (t, ← c.in-None.ensures) c.from_str-in-None.ensures.ok

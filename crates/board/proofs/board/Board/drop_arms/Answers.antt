@@ -9,6 +9,6 @@ loop-r-init c = fell_none c.args.plan.now.layout c.args.self.now c.args.p
 pub loop-r-preserved : goal.loop-r-preserved
 loop-r-preserved c =
     elim c.if-claims.branch [
-      | then-claims w ↦ w.self-is ∙ w.drop-arm.ensures ∙ fell_more c.args.plan.now.layout c.args.self.now c.loop-r.self c.args.p c.loop-r.r c.loop-r.invariant (sym w.if-claims.ensures)
+      | then-claims w ↦ w.self-is ∙ w.drop_arm.ensures ∙ fell_more c.args.plan.now.layout c.args.self.now c.loop-r.self c.args.p c.loop-r.r c.loop-r.invariant (sym w.if-claims.ensures)
       | else-claims w ↦ w.self-is ∙ fell_skip c.args.plan.now.layout c.args.self.now c.loop-r.self c.args.p c.loop-r.r c.loop-r.invariant (sym w.if-claims.ensures)
     ]

@@ -5,7 +5,7 @@ use Rattle.frame.proofs.frame.Frame.begin.Goals as goal
 
 pub returns : goal.returns
 returns g c =
-    let p = c.put-in.ensures in
+    let p = c.put_in.ensures in
     record {
       answers = p.answer;
       leaves = p.after;

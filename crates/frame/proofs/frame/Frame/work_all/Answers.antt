@@ -6,7 +6,7 @@ use Rattle.frame.proofs.frame.Frame.work_all.Goals as goal
 
 pub loop-entry-preserved : goal.loop-entry-preserved
 loop-entry-preserved g c =
-    left_more c.args.entries.now _ c.loop-entry.entries c.loop-entry.entry-index _ _ c.work-entry.new.entry (omega arith) c.work-entry.ensures.noted c.work-entry.ensures.after c.loop-entry.invariant
+    left_more c.args.entries.now _ c.loop-entry.entries c.loop-entry.entry-index _ _ c.work_entry.new.entry (omega arith) c.work_entry.ensures.noted c.work_entry.ensures.after c.loop-entry.invariant
 
 pub returns : goal.returns
 returns g c =

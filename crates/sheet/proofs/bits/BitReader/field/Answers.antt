@@ -1,14 +1,14 @@
-use Rattle.std.proofs.Common.{◌≡◌, ◌+◌, ◌*◌, ◌≤◌, true, arith}
+use Rattle.std.proofs.Common.{◌≡◌, true, arith}
 use Rattle.std.proofs.lemmas.Bool.{le-leb}
 use Rattle.sheet.specs.Bits.{whole}
 use Rattle.sheet.proofs.Values.{value_fits, value_more}
 use Rattle.sheet.proofs.bits.BitReader.field.Goals as goal
 
-pub overflow-mul-value : goal.overflow-mul-value
-overflow-mul-value c = omega (arith, value_fits c.args.self.now.bytes.now c.args.self.now.at c.loop-k.k (omega arith))
+pub overflow_mul-value : goal.overflow_mul-value
+overflow_mul-value c = omega (arith, value_fits c.args.self.now.bytes.now c.args.self.now.at c.loop-k.k (omega arith))
 
-pub overflow-add-value : goal.overflow-add-value
-overflow-add-value c = omega (arith, value_fits c.args.self.now.bytes.now c.args.self.now.at c.loop-k.k (omega arith))
+pub overflow_add-value : goal.overflow_add-value
+overflow_add-value c = omega (arith, value_fits c.args.self.now.bytes.now c.args.self.now.at c.loop-k.k (omega arith))
 
 pub loop-k-preserved : goal.loop-k-preserved
 loop-k-preserved c = let e = value_more c.args.self.now.bytes.now c.args.self.now.at c.loop-k.k in cc
