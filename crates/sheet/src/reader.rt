@@ -119,7 +119,7 @@ fn valid_layout(sheet: &[u8]) -> Result<Layout, SheetFault>
 pub fn read(sheet: &[u8]) -> Result<Plan, SheetFault>
     ensures outcome { answered result ≡ decode sheet.now }
     ensures again { IfOk result (λ p. sheet_of p.layout ≡ sheet.now) }
-    ensures kept { sheet.now ≡ sheet.now }
+    ensures kept { sheet.exit.now ≡ sheet.entry.now }
 {
     match valid_layout(sheet) {
         Ok(layout) => Ok(Plan { layout }),
