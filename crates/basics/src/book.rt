@@ -1,5 +1,5 @@
 //! A book of entries over rows that are lent to it.
-ghost use Rattle.std.specs.Prelude.{◌≡◌, ◌<◌, ◌≤◌, length, take, slice_set};
+ghost use Rattle.std.specs.Prelude.{◌≡◌, ◌≤◌, length, take};
 ghost use Rattle.std.specs.List.{slice_get};
 ghost use Rattle.basics.specs.Books.{add_answer, book_number_of, count_with, place_answer, rows_with};
 
@@ -46,14 +46,12 @@ impl<'a, T: Copy> Book<'a, T> {
         ensures filled { self.new.count ≡ count_with self.old.rows.now self.old.count }
         ensures lender { self.new.rows.ghost_name ≡ self.old.rows.ghost_name }
     {
-        if self.count < self.rows.len() {
-            let at = self.count;
-            store(self.rows, at, entry);
-            self.count = at + 1;
-            Ok(())
-        } else {
-            Err(BookFault::Full)
+        if self.count == self.rows.len() {
+            return Err(BookFault::Full);
         }
+        self.rows[self.count] = entry;
+        self.count += 1;
+        Ok(())
     }
 
     /// The entry at a place, counted from 0.
@@ -79,11 +77,4 @@ impl<'a, T: Copy> Book<'a, T> {
     {
         &self.rows[..self.count]
     }
-}
-
-fn store<T: Copy>(rows: &mut [T], at: usize, entry: T)
-    requires { at < length rows.old }
-    ensures { rows.new ≡ slice_set rows.old at entry }
-{
-    rows[at] = entry;
 }
