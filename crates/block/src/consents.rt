@@ -1,6 +1,6 @@
 //! A block of up to thirty-two places, with a token at each: what every make is built on.
-ghost use Rattle.std.specs.Prelude.{◌≡◌, ◌<◌, ◌≤◌, Bool, length};
-ghost use Rattle.block.specs.Meaning.{fresh_block, is_out, with_out};
+ghost use Rattle.std.specs.Prelude.{◌≡◌, ◌<◌, ◌≤◌, length};
+ghost use Rattle.block.specs.Meaning.{fresh_block, with_out};
 ghost use Rattle.block.specs.Consents.{consents_meaning};
 ghost use Rattle.std.proofs.Common.{rules};
 ghost use Rattle.std.proofs.lemmas.List.{length-map, length-take};
@@ -24,7 +24,7 @@ impl<T: Token> Consents<T> {
     // Every consent is at home, and the line is whole.
     pub(crate) fn at_home(lines: usize) -> Self
         requires { (1 ≤ lines) × (lines ≤ 32) }
-        ensures { consents_meaning T.out result.lines result.tokens result.whole ≡ fresh_block lines }
+        ensures { ⟦<Consents<T> as Block>⟧.meaning result ≡ fresh_block lines }
     {
         Consents {
             tokens: [T::home(); 32],
@@ -33,18 +33,10 @@ impl<T: Token> Consents<T> {
         }
     }
 
-    // Whether the consent of one of the lines is out.
-    fn line_out(&self, route: usize) -> bool
-        requires { route < self.now.lines }
-        ensures { result ≡ is_out (consents_meaning T.out self.now.lines self.now.tokens self.now.whole) route }
-    {
-        self.tokens[route].is_out()
-    }
-
     // Puts a token in the place of a route's.
     fn put(&mut self, route: usize, token: T)
         requires { route < self.old.lines }
-        ensures { consents_meaning T.out self.new.lines self.new.tokens self.new.whole ≡ with_out (consents_meaning T.out self.old.lines self.old.tokens self.old.whole) route (T.out token) }
+        ensures { ⟦<Consents<T> as Block>⟧.meaning self.new ≡ with_out (⟦<Consents<T> as Block>⟧.meaning self.old) route (T.out token) }
     {
         self.tokens[route] = token;
     }
@@ -60,7 +52,7 @@ impl<T: Token> Block for Consents<T> {
     }
 
     fn is_out(&self, route: usize) -> bool {
-        route < self.lines && self.line_out(route)
+        self.tokens[..self.lines].get(route).is_some_and(T::is_out)
     }
 
     fn is_whole(&self) -> bool {
