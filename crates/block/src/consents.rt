@@ -11,19 +11,20 @@ use crate::token::Token;
 use basics::route_set::RouteSet;
 
 #[derive(Drop)]
-pub struct Consents<T> {
+pub struct Consents<T: Token> {
     tokens: [T; 32],
     lines: usize,
     whole: bool,
     ghost sized: { length tokens ≡ 32 },
     ghost some: { 1 ≤ lines },
     ghost few: { lines ≤ 32 },
+    ghost fewest: { T.fewest ≤ lines },
 }
 
 impl<T: Token> Consents<T> {
     // Every consent is at home, and the line is whole.
     pub(crate) fn at_home(lines: usize) -> Self
-        requires { (1 ≤ lines) × (lines ≤ 32) }
+        requires { (1 ≤ lines) × (lines ≤ 32) × (T.fewest ≤ lines) }
         ensures { ⟦<Consents<T> as Block>⟧.meaning result ≡ fresh_block lines }
     {
         Consents {

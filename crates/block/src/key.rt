@@ -12,6 +12,8 @@ pub enum Key {
 impl Token for Key {
     ghost out = { in_box };
 
+    ghost fewest = { 1 };
+
     fn home() -> Key {
         Key::OnHook
     }

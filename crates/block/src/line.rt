@@ -21,6 +21,8 @@ pub struct Line {
 impl Token for Line {
     ghost out = { λ l. is_locked l.station };
 
+    ghost fewest = { 32 };
+
     fn home() -> Line {
         Line {
             station: Field::Free,

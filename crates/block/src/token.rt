@@ -1,8 +1,11 @@
 //! What stands at a line's place in a block, and shows where the consent is.
-ghost use Rattle.std.specs.Prelude.{◌≡◌, true, false, Bool};
+ghost use Rattle.std.specs.Prelude.{◌≡◌, ℕ, Bool, true, false};
 
 pub trait Token: Copy {
     ghost out: { Self → Bool };
+
+    // The fewest lines that a block of such tokens has.
+    ghost fewest: { ℕ };
 
     /// As it stands while the consent is at home.
     fn home() -> Self
