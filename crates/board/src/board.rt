@@ -1,10 +1,10 @@
 //! What stands on the board, and what one part of it can be asked and told.
 ghost use Rattle.std.specs.Prelude.{◌≡◌};
-ghost use Rattle.board.specs.Boards.{coupled_again, demanded, dropped, elsewhere, fails, fresh, hinders, is_clear, is_pulled, is_trailed, other_way, thrown, toward, trailed_here};
+ghost use Rattle.board.specs.Boards.{coupled_again, demanded, dropped, elsewhere, fails, fresh, hinders, is_clear, is_held, is_pulled, is_trailed, other_way, released, thrown, toward, trailed_here};
 
 use sheet::layout::{Demand, Side};
 
-#[derive(Clone, Copy)]
+#[derive(Clone, Copy, Debug, PartialEq, Eq)]
 pub enum Position {
     Plus,
     Minus,
@@ -30,14 +30,14 @@ fn is_elsewhere(demand: Demand, position: Position) -> bool
 }
 
 /// Whether a point moves with its lever.
-#[derive(Clone, Copy)]
+#[derive(Clone, Copy, Debug, PartialEq, Eq)]
 pub enum Coupling {
     Coupled,
     Trailed,
 }
 
 /// A point: its lever's position, and whether it moves with it.
-#[derive(Clone, Copy)]
+#[derive(Clone, Copy, Debug, PartialEq, Eq)]
 pub struct Point {
     pub position: Position,
     pub coupling: Coupling,
@@ -47,10 +47,7 @@ impl Point {
     pub(crate) fn is_trailed(&self) -> bool
         ensures { result ≡ is_trailed self.now }
     {
-        match self.coupling {
-            Coupling::Coupled => false,
-            Coupling::Trailed => true,
-        }
+        self.coupling == Coupling::Trailed
     }
 
     // Whether it keeps a route that demands this of it from being set.
@@ -90,7 +87,7 @@ impl Point {
 }
 
 /// A route lever.
-#[derive(Clone, Copy)]
+#[derive(Clone, Copy, Debug, PartialEq, Eq)]
 pub enum Lever {
     Normal,
     Up,
@@ -101,10 +98,7 @@ impl Lever {
     pub(crate) fn is_thrown(self, side: Side) -> bool
         ensures { result ≡ thrown self side }
     {
-        match (self, side) {
-            (Lever::Up, Side::Up) | (Lever::Down, Side::Down) => true,
-            _ => false,
-        }
+        self == Lever::toward(side)
     }
 
     pub(crate) fn toward(side: Side) -> Lever
@@ -118,7 +112,7 @@ impl Lever {
 }
 
 /// How far a route's field has come under its consent.
-#[derive(Clone, Copy)]
+#[derive(Clone, Copy, Debug, PartialEq, Eq)]
 pub enum Stage {
     Open,
     Held,
@@ -130,8 +124,26 @@ pub enum Stage {
     Spent,
 }
 
+impl Stage {
+    pub(crate) fn is_held(self) -> bool
+        ensures { result ≡ is_held self }
+    {
+        matches!(self, Stage::Held | Stage::Cleared | Stage::Run)
+    }
+
+    // The stage of a field that is released.
+    pub(crate) fn released(self) -> Stage
+        ensures { result ≡ released self }
+    {
+        match self {
+            Stage::Open | Stage::Held | Stage::Cleared => Stage::Open,
+            Stage::Run | Stage::Spent => Stage::Spent,
+        }
+    }
+}
+
 /// A signal lever: normal, or pulled with the arm at clear or fallen.
-#[derive(Clone, Copy)]
+#[derive(Clone, Copy, Debug, PartialEq, Eq)]
 pub enum Arm {
     Normal,
     Clear,
@@ -142,19 +154,13 @@ impl Arm {
     pub(crate) fn is_pulled(self) -> bool
         ensures { result ≡ is_pulled self }
     {
-        match self {
-            Arm::Normal => false,
-            Arm::Clear | Arm::Fallen => true,
-        }
+        self != Arm::Normal
     }
 
     pub fn is_clear(self) -> bool
         ensures { result ≡ is_clear self }
     {
-        match self {
-            Arm::Clear => true,
-            Arm::Normal | Arm::Fallen => false,
-        }
+        self == Arm::Clear
     }
 
     // An arm at clear falls.
@@ -169,7 +175,7 @@ impl Arm {
 }
 
 /// All that moves, as many of each as a plan can have.
-#[derive(Clone, Copy)]
+#[derive(Clone, Copy, Debug, PartialEq, Eq)]
 pub struct Board {
     pub points: [Point; 32],
     pub levers: [Lever; 16],
