@@ -1,5 +1,5 @@
 -- Each part of a sheet that was read is the bits that its value is written with.
-use Rattle.std.proofs.Common.{◌≡◌, ℕ, zero, suc, ◌+◌, ◌-◌, ◌*◌, ◌^◌, ◌<◌, ◌≤◌, Bool, false, cond, ◌&&◌, eqb, ltb, leb, ◌≢◌, List, ◌++◌, length, get_or, set, replicate, sym, refl, ap, ◌∙◌, subst, arith}
+use Rattle.std.proofs.Common.{◌≡◌, ℕ, zero, suc, ◌+◌, ◌-◌, ◌*◌, ◌^◌, ◌<◌, ◌≤◌, Bool, false, cond, ◌&&◌, eqb, ltb, leb, ◌≢◌, List, ◌++◌, length, get_or, set, replicate, Some, None, Option, sym, refl, ap, ◌∙◌, subst, arith}
 use Rattle.std.proofs.lemmas.Bool.{and_parts, leb-true, eqb-true}
 use Rattle.std.proofs.lemmas.List.{length-set, get_or-set_same, get_or-set_other}
 use Rattle.sheet.specs.Bits.{Read, done, fault, next, field_at}
@@ -10,8 +10,8 @@ use Rattle.sheet.specs.declared.layout.Side.{Side}
 use Rattle.sheet.specs.declared.layout.Side.TheVariants.{Up, Down}
 use Rattle.sheet.specs.declared.layout.Release.{Release}
 use Rattle.sheet.specs.declared.layout.Release.TheVariants.{Station, Train}
-use Rattle.sheet.specs.declared.layout.Demand.{Demand}
-use Rattle.sheet.specs.declared.layout.Demand.TheVariants.{Nothing, Plus, Minus}
+use Rattle.sheet.specs.declared.layout.Position.{Position}
+use Rattle.sheet.specs.declared.layout.Position.TheVariants.{Plus, Minus}
 use Rattle.sheet.specs.declared.layout.Counts.{Counts}
 use Rattle.sheet.specs.declared.layout.Route.{Route}
 use Rattle.sheet.proofs.Took.{Took, took_none, took_append, went, kept, field_took, done_parts}
@@ -85,18 +85,18 @@ release_took s i a ds j h = coded_took (λ c. cond (eqb c 0) Station Train) rele
 flag_took : (s : List ℕ) (i : ℕ) (a : Bool) (ds : List ℕ) (j : ℕ) → flag_at s i ≡ done a ds j → Took s ds i j (bits_of 1 (cond a 1 0))
 flag_took s i a ds j h = coded_took (λ c. eqb c 1) (λ a. cond a 1 0) s i 1 flag_code_lem a ds j h
 
-demand_code_lem : (c : ℕ) (i : ℕ) (es : List ℕ) (k : ℕ) (a : Demand) (ds : List ℕ) (j : ℕ) → c < 4
-    → cond (eqb c 0) (done Nothing es k) (cond (eqb c 1) (done Plus es k) (cond (eqb c 2) (done Minus es k) (fault BadPointCode i))) ≡ done a ds j
+demand_code_lem : (c : ℕ) (i : ℕ) (es : List ℕ) (k : ℕ) (a : Option Position) (ds : List ℕ) (j : ℕ) → c < 4
+    → cond (eqb c 0) (done None es k) (cond (eqb c 1) (done (Some Plus) es k) (cond (eqb c 2) (done (Some Minus) es k) (fault BadPointCode i))) ≡ done a ds j
     → (c ≡ demand_code a) × (es ≡ ds) × (k ≡ j)
-demand_code_lem zero i es k a ds j h e = let f : Nothing ≡ a = cc in (ap demand_code f, (cc), (cc))
-demand_code_lem (suc zero) i es k a ds j h e = let f : Plus ≡ a = cc in (ap demand_code f, (cc), (cc))
-demand_code_lem (suc (suc zero)) i es k a ds j h e = let f : Minus ≡ a = cc in (ap demand_code f, (cc), (cc))
+demand_code_lem zero i es k a ds j h e = let f : None ≡ a = cc in (ap demand_code f, (cc), (cc))
+demand_code_lem (suc zero) i es k a ds j h e = let f : Some Plus ≡ a = cc in (ap demand_code f, (cc), (cc))
+demand_code_lem (suc (suc zero)) i es k a ds j h e = let f : Some Minus ≡ a = cc in (ap demand_code f, (cc), (cc))
 demand_code_lem (suc (suc (suc zero))) i es k a ds j h e = let z : ◌≡◌ {A = ℕ} 0 1 = cc in absurd (omega arith)
 demand_code_lem (suc (suc (suc (suc c)))) i es k a ds j h e = absurd (omega arith)
 
-demand_took : (s : List ℕ) (i : ℕ) (a : Demand) (ds : List ℕ) (j : ℕ) → demand_at s i ≡ done a ds j → Took s ds i j (bits_of 2 (demand_code a))
+demand_took : (s : List ℕ) (i : ℕ) (a : Option Position) (ds : List ℕ) (j : ℕ) → demand_at s i ≡ done a ds j → Took s ds i j (bits_of 2 (demand_code a))
 demand_took s i a ds j h =
-    let w = went (field_at s i 2) (λ c ds j. cond (eqb c 0) (done Nothing ds j) (cond (eqb c 1) (done Plus ds j) (cond (eqb c 2) (done Minus ds j) (fault BadPointCode i)))) a ds j h in
+    let w = went (field_at s i 2) (λ c ds j. cond (eqb c 0) (done None ds j) (cond (eqb c 1) (done (Some Plus) ds j) (cond (eqb c 2) (done (Some Minus) ds j) (fault BadPointCode i)))) a ds j h in
     let t = field_took s i 2 w.value w.sheet w.place w.first in
     let q = demand_code_lem w.value i w.sheet w.place a ds j t.1 w.rest in
     took_at t.0 q.1 q.2 (ap (bits_of 2) q.0)
@@ -120,10 +120,10 @@ module _ {A : Type 0} (one : ℕ → List ℕ → ℕ → Read A) (f : ℕ → A
       let u : Took s w.sheet i w.place (f k (get_or row' k d)) = subst (λ v. Took s w.sheet i w.place (f k v)) (sym here) t in
       (took_append u r.0, λ t b. let ne : t ≢ k = omega arith in r.1 t (omega arith) ∙ get_or-set_other row k t a d ne)
 
-pub demands_took : (p : ℕ) (s : List ℕ) (i : ℕ) (row : List Demand) (ds : List ℕ) (j : ℕ) → p ≤ 32 → demands_at p s i ≡ done row ds j
+pub demands_took : (p : ℕ) (s : List ℕ) (i : ℕ) (row : List (Option Position)) (ds : List ℕ) (j : ℕ) → p ≤ 32 → demands_at p s i ≡ done row ds j
     → Took s ds i j (each (demand_bits row) p 0)
 demands_took p s i row ds j l h =
-    (fill_took (λ k. demand_at) (λ k a. bits_of 2 (demand_code a)) Nothing 32 (λ k s i a ds j b. demand_took s i a ds j) s i p 0 (replicate 32 Nothing) row ds j (omega arith) (omega arith) h).0
+    (fill_took (λ k. demand_at) (λ k a. bits_of 2 (demand_code a)) None 32 (λ k s i a ds j b. demand_took s i a ds j) s i p 0 (replicate 32 None) row ds j (omega arith) (omega arith) h).0
 
 pub named_took : (n r : ℕ) (s : List ℕ) (i : ℕ) (row : List Bool) (ds : List ℕ) (j : ℕ) → n ≤ 32 → r < n → named_at n r s i ≡ done row ds j
     → Took s ds i j (each (named_bits row) (n - (r + 1)) (r + 1))
@@ -171,10 +171,10 @@ stage_end x mk s i E sel K first made b es k h =
     (took_at t p.1 p.2 (ap E (sym (made w.value).0 ∙ ap sel p.0)), subst K p.0 (made w.value).1)
 
 module _ (h : Counts) (r : ℕ) (lp : h.points ≤ 32) (ln : h.routes ≤ 32) (lr : r < h.routes) where
-  abbrev whole_of : ℕ → Side → ℕ → Release → List Demand → List Bool → Route
+  abbrev whole_of : ℕ → Side → ℕ → Release → List (Option Position) → List Bool → Route
   whole_of a b c d e f = record { lever = a; side = b; signal = c; release = d; demands = e; named = f }
 
-  abbrev step6 : ℕ → Side → ℕ → Release → List Demand → List ℕ → ℕ → Read Route
+  abbrev step6 : ℕ → Side → ℕ → Release → List (Option Position) → List ℕ → ℕ → Read Route
   step6 a b c d e s i = next (named_at h.routes r s i) (λ f s i. done (whole_of a b c d e f) s i)
 
   abbrev step5 : ℕ → Side → ℕ → Release → List ℕ → ℕ → Read Route
@@ -204,7 +204,7 @@ module _ (h : Counts) (r : ℕ) (lp : h.points ≤ 32) (ln : h.routes ≤ 32) (l
   abbrev bits2 : Route → List ℕ
   bits2 x = bits_of 1 (side_code x.side) ++ bits3 x
 
-  took6 : (a : ℕ) (b : Side) (c : ℕ) (d : Release) (e : List Demand) (s : List ℕ) (i : ℕ) (x : Route) (ds : List ℕ) (j : ℕ) → step6 a b c d e s i ≡ done x ds j
+  took6 : (a : ℕ) (b : Side) (c : ℕ) (d : Release) (e : List (Option Position)) (s : List ℕ) (i : ℕ) (x : Route) (ds : List ℕ) (j : ℕ) → step6 a b c d e s i ≡ done x ds j
       → Took s ds i j (bits6 x) × ((x.demands ≡ e) × ((x.release ≡ d) × ((x.signal ≡ c) × ((x.side ≡ b) × ((x.lever ≡ a) × Unit {0})))))
   took6 a b c d e s i x ds j q =
       stage_end (named_at h.routes r s i) (whole_of a b c d e) s i (λ row. each (named_bits row) (h.routes - (r + 1)) (r + 1)) (λ x. x.named)

@@ -1,5 +1,5 @@
 -- The fields of a sheet, each at bit i: first whether it is whole, then whether its value is one that it may have.
-use Rattle.std.specs.Prelude.{ℕ, zero, suc, ◌+◌, ◌-◌, ◌*◌, ◌/◌, Bool, false, cond, ◌&&◌, List, length, replicate, ◌==◌, nat_le, nat_lt, slice_set}
+use Rattle.std.specs.Prelude.{ℕ, zero, suc, ◌+◌, ◌-◌, ◌*◌, ◌/◌, Bool, false, cond, ◌&&◌, List, length, replicate, Some, None, Option, ◌==◌, nat_le, nat_lt, slice_set}
 use Rattle.sheet.specs.Bits.{Read, done, fault, next, bit_of, field_at}
 use Rattle.sheet.specs.Layouts.{no_route}
 use Rattle.sheet.specs.declared.fault.Flaw.TheVariants.{WrongEdition, CountOutside, NumberTooHigh, BadPointCode, BadFilling}
@@ -7,8 +7,8 @@ use Rattle.sheet.specs.declared.layout.Side.{Side}
 use Rattle.sheet.specs.declared.layout.Side.TheVariants.{Up, Down}
 use Rattle.sheet.specs.declared.layout.Release.{Release}
 use Rattle.sheet.specs.declared.layout.Release.TheVariants.{Station, Train}
-use Rattle.sheet.specs.declared.layout.Demand.{Demand}
-use Rattle.sheet.specs.declared.layout.Demand.TheVariants.{Nothing, Plus, Minus}
+use Rattle.sheet.specs.declared.layout.Position.{Position}
+use Rattle.sheet.specs.declared.layout.Position.TheVariants.{Plus, Minus}
 use Rattle.sheet.specs.declared.layout.Route.{Route}
 use Rattle.sheet.specs.declared.layout.Counts.{Counts}
 use Rattle.sheet.specs.declared.layout.Layout.{Layout}
@@ -30,9 +30,9 @@ side_at s i = next (field_at s i 1) (λ c s i. done (cond (c == 0) Up Down) s i)
 abbrev pub release_at : List ℕ → ℕ → Read Release
 release_at s i = next (field_at s i 1) (λ c s i. done (cond (c == 0) Station Train) s i)
 
-abbrev pub demand_at : List ℕ → ℕ → Read Demand
+abbrev pub demand_at : List ℕ → ℕ → Read (Option Position)
 demand_at s i = next (field_at s i 2) (λ c s j.
-    cond (c == 0) (done Nothing s j) (cond (c == 1) (done Plus s j) (cond (c == 2) (done Minus s j) (fault BadPointCode i))))
+    cond (c == 0) (done None s j) (cond (c == 1) (done (Some Plus) s j) (cond (c == 2) (done (Some Minus) s j) (fault BadPointCode i))))
 
 abbrev pub flag_at : List ℕ → ℕ → Read Bool
 flag_at s i = next (field_at s i 1) (λ c s i. done (c == 1) s i)
@@ -52,8 +52,8 @@ counts_at s i =
     done (record { points = p; signals = g; levers = v; routes = n }) s i))))
 
 -- a demand of each of p points
-abbrev pub demands_at : ℕ → List ℕ → ℕ → Read (List Demand)
-demands_at p s i = fill (λ k. demand_at) s i p 0 (replicate 32 Nothing)
+abbrev pub demands_at : ℕ → List ℕ → ℕ → Read (List (Option Position))
+demands_at p s i = fill (λ k. demand_at) s i p 0 (replicate 32 None)
 
 -- for each of n routes that is higher than r, whether the pair is named hostile
 abbrev pub named_at : ℕ → ℕ → List ℕ → ℕ → Read (List Bool)

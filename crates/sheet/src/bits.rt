@@ -4,7 +4,7 @@ ghost use Rattle.sheet.specs.Bits.{bit_of, field_at, told};
 ghost use Rattle.sheet.specs.Fields.{count_at, demand_at, edition_at, filling_at, flag_at, number_at, release_at, side_at};
 
 use crate::fault::{Flaw, SheetFault};
-use crate::layout::{Demand, Release, Side};
+use crate::layout::{Position, Release, Side};
 
 /// A sheet's bytes, and the bit at which the next field begins.
 #[derive(Drop)]
@@ -130,16 +130,16 @@ impl<'a> BitReader<'a> {
         })
     }
 
-    pub(crate) fn demand(&mut self) -> Result<Demand, SheetFault>
+    pub(crate) fn demand(&mut self) -> Result<Option<Position>, SheetFault>
         requires { self.old.at ≤ 4000 }
         ensures value { told result self.new.bytes.now self.new.at ≡ demand_at self.old.bytes.now self.old.at }
         ensures near { self.new.at ≤ self.old.at + 2 }
     {
         let place = self.at;
         match take!(self.field(2)) {
-            0 => Ok(Demand::Nothing),
-            1 => Ok(Demand::Plus),
-            2 => Ok(Demand::Minus),
+            0 => Ok(None),
+            1 => Ok(Some(Position::Plus)),
+            2 => Ok(Some(Position::Minus)),
             _ => Err(SheetFault {
                 flaw: Flaw::BadPointCode,
                 place,

@@ -5,7 +5,7 @@ ghost use Rattle.sheet.specs.Faults.{number_of};
 use basics::lookup::Numbered;
 
 /// What is wrong with a sheet, or keeps one from being written.
-#[derive(Clone, Copy)]
+#[derive(Clone, Copy, Debug, PartialEq, Eq)]
 pub enum Flaw {
     /// The sheet ends inside a field.
     EndsInside,
@@ -53,7 +53,7 @@ impl Flaw {
 }
 
 /// A sheet's fault: what is wrong, and at which bit, route, lever or signal; at place 0 where a writing is refused.
-#[derive(Clone, Copy)]
+#[derive(Clone, Copy, Debug, PartialEq, Eq)]
 pub struct SheetFault {
     pub flaw: Flaw,
     pub place: usize,

@@ -9,7 +9,7 @@ ghost use Rattle.sheet.specs.Valid.{Few, Valid, Within, WithinTo};
 
 use crate::bits::BitReader;
 use crate::fault::SheetFault;
-use crate::layout::{Counts, Demand, Layout, NO_ROUTE, Route};
+use crate::layout::{Counts, Layout, NO_ROUTE, Position, Route};
 use crate::plan::Plan;
 use crate::rules::judge;
 
@@ -31,12 +31,12 @@ fn counts(bits: &mut BitReader) -> Result<Counts, SheetFault>
     })
 }
 
-fn demands(bits: &mut BitReader, points: usize) -> Result<[Demand; 32], SheetFault>
+fn demands(bits: &mut BitReader, points: usize) -> Result<[Option<Position>; 32], SheetFault>
     requires { (bits.old.at ≤ 3900) × (points ≤ 32) }
     ensures value { told result bits.new.bytes.now bits.new.at ≡ demands_at points bits.old.bytes.now bits.old.at }
     ensures near { bits.new.at ≤ bits.old.at + 64 }
 {
-    let mut row = [Demand::Nothing; 32];
+    let mut row = [None; 32];
     for k in 0..points {
         row[k] = take!(bits.demand());
     }

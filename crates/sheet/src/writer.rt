@@ -7,7 +7,7 @@ ghost use Rattle.sheet.specs.Writing.{Wrote, writing, written};
 
 use crate::bit_writer::BitWriter;
 use crate::fault::{Flaw, SheetFault};
-use crate::layout::{Counts, Demand, Layout, Release, Route, Side};
+use crate::layout::{Counts, Layout, Position, Release, Route, Side};
 use crate::plan::Plan;
 
 fn side_code(side: Side) -> usize
@@ -28,13 +28,13 @@ fn release_code(release: Release) -> usize
     }
 }
 
-fn demand_code(demand: Demand) -> usize
+fn demand_code(demand: Option<Position>) -> usize
     ensures { result ≡ demand_code demand }
 {
     match demand {
-        Demand::Nothing => 0,
-        Demand::Plus => 1,
-        Demand::Minus => 2,
+        None => 0,
+        Some(Position::Plus) => 1,
+        Some(Position::Minus) => 2,
     }
 }
 
@@ -56,7 +56,7 @@ fn put_head(w: &mut BitWriter, counts: Counts)
     w.put(6, counts.routes);
 }
 
-fn put_demands(w: &mut BitWriter, points: usize, row: &[Demand; 32])
+fn put_demands(w: &mut BitWriter, points: usize, row: &[Option<Position>; 32])
     requires { (w.old.at + length (each (demand_bits row.now) points 0) ≤ 8 * length w.old.out.now) × ((w.old.at + length (each (demand_bits row.now) points 0) ≤ 4000) × (points ≤ 32)) }
     ensures wrote { Wrote w.old.out.now w.old.at w.new.out.now w.new.at (each (demand_bits row.now) points 0) }
     ensures same { w.new.out.ghost_name ≡ w.old.out.ghost_name }
