@@ -1,33 +1,8 @@
 //! What stands on the board, and what one part of it can be asked and told.
 ghost use Rattle.std.specs.Prelude.{◌≡◌};
-ghost use Rattle.board.specs.Boards.{coupled_again, demanded, dropped, elsewhere, fails, fresh, hinders, is_clear, is_held, is_pulled, is_trailed, other_way, released, thrown, toward, trailed_here};
+ghost use Rattle.board.specs.Boards.{coupled_again, dropped, fails, fresh, hinders, is_clear, is_held, is_pulled, is_trailed, other_way, released, thrown, toward, trailed_here};
 
-use sheet::layout::{Demand, Side};
-
-#[derive(Clone, Copy, Debug, PartialEq, Eq)]
-pub enum Position {
-    Plus,
-    Minus,
-}
-
-pub(crate) fn is_demanded(demand: Demand) -> bool
-    ensures { result ≡ demanded demand }
-{
-    match demand {
-        Demand::Nothing => false,
-        Demand::Plus | Demand::Minus => true,
-    }
-}
-
-// Whether the position is not the one that is demanded.
-fn is_elsewhere(demand: Demand, position: Position) -> bool
-    ensures { result ≡ elsewhere demand position }
-{
-    match (demand, position) {
-        (Demand::Plus, Position::Minus) | (Demand::Minus, Position::Plus) => true,
-        _ => false,
-    }
-}
+use sheet::layout::{Position, Side};
 
 /// Whether a point moves with its lever.
 #[derive(Clone, Copy, Debug, PartialEq, Eq)]
@@ -51,17 +26,17 @@ impl Point {
     }
 
     // Whether it keeps a route that demands this of it from being set.
-    pub(crate) fn hinders(&self, demand: Demand) -> bool
+    pub(crate) fn hinders(&self, demand: Option<Position>) -> bool
         ensures { result ≡ hinders demand self.now }
     {
-        is_demanded(demand) & (self.is_trailed() | is_elsewhere(demand, self.position))
+        demand.is_some_and(|wanted| self.is_trailed() || self.position != wanted)
     }
 
     // Whether it is trailed under a route that demands this of it.
-    pub(crate) fn fails(&self, demand: Demand) -> bool
+    pub(crate) fn fails(&self, demand: Option<Position>) -> bool
         ensures { result ≡ fails demand self.now }
     {
-        is_demanded(demand) & self.is_trailed()
+        demand.is_some() && self.is_trailed()
     }
 
     pub(crate) fn throw(&mut self)

@@ -3,7 +3,7 @@ ghost use Rattle.std.specs.Prelude.{◌≡◌, ◌<◌, IfSome};
 ghost use Rattle.board.specs.Boards.{arm_at, claims, dropped, fell, is_set, is_signalled, route_of, serves, with_arm, with_signals};
 ghost use Rattle.board.specs.Calls.{failure_of, is_locked, obstacle_of, set_route_of};
 
-use crate::board::{Board, is_demanded};
+use crate::board::Board;
 use sheet::layout::Route;
 use sheet::plan::Plan;
 
@@ -12,10 +12,8 @@ impl Board {
     pub fn is_set(&self, plan: &Plan, r: usize) -> bool
         ensures { result ≡ is_set plan.now.layout self.now r }
     {
-        match plan.route(r) {
-            Some(route) => self.levers[route.lever].is_thrown(route.side),
-            None => false,
-        }
+        plan.route(r)
+            .is_some_and(|route| self.levers[route.lever].is_thrown(route.side))
     }
 
     // Whether a route is set and demands a point.
@@ -23,10 +21,10 @@ impl Board {
         requires { p < 32 }
         ensures { result ≡ claims plan.now.layout self.now p r }
     {
-        match plan.route(r) {
-            Some(route) => self.is_set(plan, r) & is_demanded(route.demands[p]),
-            None => false,
-        }
+        self.is_set(plan, r)
+            && plan
+                .route(r)
+                .is_some_and(|route| route.demands[p].is_some())
     }
 
     // Whether a set route demands a point.
@@ -46,10 +44,7 @@ impl Board {
     fn serves(&self, plan: &Plan, g: usize, r: usize) -> bool
         ensures { result ≡ serves plan.now.layout self.now g r }
     {
-        match plan.route(r) {
-            Some(route) => self.is_set(plan, r) & (route.signal == g),
-            None => false,
-        }
+        self.is_set(plan, r) && plan.route(r).is_some_and(|route| route.signal == g)
     }
 
     // The set route of a signal.
