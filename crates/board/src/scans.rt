@@ -32,12 +32,7 @@ impl Board {
         requires { p < 32 }
         ensures { result ≡ is_locked plan.now.layout self.now p }
     {
-        for r in 0..plan.counts().routes {
-            if self.claims(plan, p, r) {
-                return true;
-            }
-        }
-        false
+        (0..plan.counts().routes).any(|r| self.claims(plan, p, r))
     }
 
     // Whether a route is set and has a signal.
@@ -52,12 +47,7 @@ impl Board {
         ensures value { result ≡ set_route_of plan.now.layout self.now g }
         ensures within { IfSome result (λ r. r < plan.now.layout.counts.routes) }
     {
-        for r in 0..plan.counts().routes {
-            if self.serves(plan, g, r) {
-                return Some(r);
-            }
-        }
-        None
+        (0..plan.counts().routes).find(|&r| self.serves(plan, g, r))
     }
 
     // The lowest point that keeps a route from being set.
@@ -65,24 +55,14 @@ impl Board {
         ensures value { result ≡ obstacle_of plan.now.layout self.now route.now }
         ensures within { IfSome result (λ p. p < 32) }
     {
-        for p in 0..plan.counts().points {
-            if self.points[p].hinders(route.demands[p]) {
-                return Some(p);
-            }
-        }
-        None
+        (0..plan.counts().points).find(|&p| self.points[p].hinders(route.demands[p]))
     }
 
     // The lowest trailed point that a route demands.
     pub(crate) fn failure(&self, plan: &Plan, route: &Route) -> Option<usize>
         ensures { result ≡ failure_of plan.now.layout self.now route.now }
     {
-        for p in 0..plan.counts().points {
-            if self.points[p].fails(route.demands[p]) {
-                return Some(p);
-            }
-        }
-        None
+        (0..plan.counts().points).find(|&p| self.points[p].fails(route.demands[p]))
     }
 
     // Drops the arm of a route's signal, if it is at clear.
