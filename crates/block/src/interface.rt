@@ -26,12 +26,7 @@ pub trait Block {
     fn any_out(&self, routes: &RouteSet) -> bool
         ensures { result ≡ any_out (meaning self.now) routes.now.members }
     {
-        for route in 0..self.lines() {
-            if routes.has(route) & self.is_out(route) {
-                return true;
-            }
-        }
-        false
+        (0..self.lines()).any(|route| routes.has(route) & self.is_out(route))
     }
 
     /// What a give would be answered.
