@@ -62,6 +62,7 @@ impl Point {
 }
 
 /// A route lever.
+// An enum of its own, and not Option<Side>: a host that asks for a lever would be answered an option in an option.
 #[derive(Clone, Copy, Debug, PartialEq, Eq)]
 pub enum Lever {
     Normal,

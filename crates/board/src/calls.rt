@@ -9,6 +9,7 @@ use block::fault::BlockFault;
 use sheet::layout::Release;
 use sheet::plan::Plan;
 
+// Each call is told the plan: a struct of a plan and a board would have to promise at every call that its plan stays.
 impl Board {
     /// Puts a point into its other position.
     pub fn throw(&mut self, plan: &Plan, p: usize) -> Answer

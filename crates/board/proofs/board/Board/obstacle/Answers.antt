@@ -1,0 +1,8 @@
+use Rattle.std.proofs.Common.{rules, tests}
+use Rattle.basics.proofs.Scans.{lowest_ranged}
+use Rattle.board.specs.Calls.{hinders_at}
+use Rattle.board.proofs.board.Board.obstacle.Goals as goal
+
+pub returns-clause-value : goal.returns-clause-value
+returns-clause-value c =
+    lowest_ranged (hinders_at c.args.self.now c.args.route.now) c.args.plan.now.layout.counts.points _ _ c.find.result c.find.ensures.ran (cc) (λ x b q k. search (rules, tests))
