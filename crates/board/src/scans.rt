@@ -71,9 +71,8 @@ impl Board {
         requires { r < plan.now.layout.counts.routes }
         ensures { self.new ≡ with_arm self.old (route_of plan.now.layout r).signal (dropped (arm_at self.old (route_of plan.now.layout r).signal)) }
     {
-        if let Some(route) = plan.route(r) {
-            self.signals[route.signal] = self.signals[route.signal].dropped();
-        }
+        let route = plan.route(r).unwrap();
+        self.signals[route.signal] = self.signals[route.signal].dropped();
     }
 
     // Drops each arm at clear whose set route demands a point.

@@ -1,5 +1,5 @@
 -- What every call keeps, and that each keeps it.
-use Rattle.std.proofs.Common.{◌≡◌, ℕ, ◌<◌, ◌≤◌, Bool, true, false, eqb, ◌≢◌, ◌⊎◌, length, get_or, replicate, Some, None, Option, sym, refl, ap, ◌∙◌, subst, inl, inr, ⊎_elim, arith, length-set}
+use Rattle.std.proofs.Common.{◌≡◌, ℕ, ◌<◌, ◌≤◌, Bool, true, false, eqb, ◌≢◌, ◌⊎◌, length, get_or, replicate, Some, None, Ok, Err, Option, sym, refl, ap, ◌∙◌, subst, inl, inr, ⊎_elim, arith, length-set}
 use lib.ListN.{length-replicate}
 use Rattle.std.proofs.lemmas.List.{get_or-set_same, get_or_past, get_or-replicate}
 use Rattle.std.proofs.lemmas.Bool.{and_cases, and_from, and_parts, both_ways, cases_lt, eqb-true}
@@ -7,16 +7,14 @@ use Rattle.basics.proofs.Scans.{any_none, lowest_none, lowest_some}
 use Rattle.sheet.specs.Hostility.{are_hostile, hostiles_of}
 use Rattle.sheet.specs.Layouts.{demand_of}
 use Rattle.sheet.specs.Valid.{Few, Within, Apart}
-use Rattle.sheet.specs.declared.layout.Demand.{Demand}
+use Rattle.sheet.specs.declared.layout.Position.{Position}
 use Rattle.sheet.specs.declared.layout.Route.{Route}
 use Rattle.sheet.specs.declared.layout.Layout.{Layout}
 use Rattle.sheet.proofs.Opponents.{hostile_symmetric}
 use Rattle.block.specs.Meaning.{Meaning, is_out, any_out, with_out, with_whole}
-use Rattle.board.specs.Answers.{settled}
+use Rattle.board.specs.Answers.{Answer, accepted, settled}
 use Rattle.board.specs.Boards.{is_trailed, demanded, elsewhere, plus_point, is_normal, thrown, toward, is_held, is_cleared, is_run, is_spent, released, is_clear, is_pulled, dropped, fresh, point_at, stage_at, arm_at, lever_at, lever_of, route_of, is_set, claims, serves}
 use Rattle.board.specs.Calls.{is_locked, hinders_at, obstacle_of, fails_at, failure_of, set_route_of, pull_for, pulled_for, set_changed, normal_changed}
-use Rattle.board.specs.declared.answer.Answer.{Answer}
-use Rattle.board.specs.declared.answer.Answer.TheVariants.{Accepted, Refused}
 use Rattle.board.specs.declared.board.Board.{Board}
 use Rattle.board.specs.declared.board.Lever.TheVariants as lever
 use Rattle.board.specs.declared.board.Stage.{Stage}
@@ -46,7 +44,7 @@ pub record Sized (b : Board) (m : Meaning) : Type 0 where
   pub signals : length b.signals ≡ 32
   pub lines : length m.out ≡ m.lines
 
-abbrev pub demand_at : Layout → ℕ → ℕ → Demand
+abbrev pub demand_at : Layout → ℕ → ℕ → Option Position
 demand_at l r p = demand_of (route_of l r) p
 
 -- the route is set behind the signal, is held and cleared, and its points are coupled
@@ -84,7 +82,7 @@ lever_within s k r l = omega (arith, (k.ordered.within r l).0, k.sized.levers, k
 sized_out : (b : Board) (m : Meaning) (r : ℕ) (x : Bool) → Sized b m → Sized b (with_out m r x)
 sized_out b m r x z = record { points = z.points; levers = z.levers; fields = z.fields; signals = z.signals; lines = length-set m.out r x ∙ z.lines }
 
-give_keeps : (r : ℕ) (s : State) → answer_of Give r s ≡ Accepted → Safe s → Safe (changed Give r s)
+give_keeps : (r : ℕ) (s : State) → answer_of Give r s ≡ accepted → Safe s → Safe (changed Give r s)
 give_keeps r s h k = record {
   ordered = k.ordered;
   sized = sized_out s.board s.block r true k.sized;
@@ -115,7 +113,7 @@ give_keeps r s h k = record {
     was : (q : ℕ) → is_out (with_out s.block r true) q ≡ true → ((q ≡ r) × (true ≡ true)) ⊎ ((q ≢ r) × (is_out s.block q ≡ true))
     was q o = from_set s.block.out r q true false (λ z. z ≡ true) lt o
 
-throw_keeps : (p : ℕ) (s : State) → answer_of Throw p s ≡ Accepted → Safe s → Safe (changed Throw p s)
+throw_keeps : (p : ℕ) (s : State) → answer_of Throw p s ≡ accepted → Safe s → Safe (changed Throw p s)
 throw_keeps p s h k = record {
   ordered = k.ordered;
   sized = record { points = length-set s.board.points p _ ∙ k.sized.points; levers = k.sized.levers; fields = k.sized.fields; signals = k.sized.signals; lines = k.sized.lines };
@@ -143,7 +141,7 @@ throw_keeps p s h k = record {
         (λ a. subst (λ z. demanded (demand_at s.plan r z) ≡ false) (sym e) a)
         (and_cases (is_set s.plan s.board r) (demanded (demand_at s.plan r p)) (any_none (claims s.plan s.board p) (routes s) r w.2 (set_parts s.plan s.board r t).0))
 
-trail_keeps : (p : ℕ) (s : State) → answer_of Trail p s ≡ Accepted → Safe s → Safe (changed Trail p s)
+trail_keeps : (p : ℕ) (s : State) → answer_of Trail p s ≡ accepted → Safe s → Safe (changed Trail p s)
 trail_keeps p s h k = record {
   ordered = k.ordered;
   sized = record { points = length-set s.board.points p _ ∙ k.sized.points; levers = k.sized.levers; fields = k.sized.fields; signals = fell_long s.plan s.board p (routes s) ∙ k.sized.signals; lines = k.sized.lines };
@@ -173,7 +171,7 @@ trail_keeps p s h k = record {
     lt : p < length s.board.points
     lt = point_within s k p (trail_passed p s h)
 
-recouple_keeps : (p : ℕ) (s : State) → answer_of Recouple p s ≡ Accepted → Safe s → Safe (changed Recouple p s)
+recouple_keeps : (p : ℕ) (s : State) → answer_of Recouple p s ≡ accepted → Safe s → Safe (changed Recouple p s)
 recouple_keeps p s h k = record {
   ordered = k.ordered;
   sized = record { points = length-set s.board.points p _ ∙ k.sized.points; levers = k.sized.levers; fields = k.sized.fields; signals = k.sized.signals; lines = k.sized.lines };
@@ -198,7 +196,7 @@ one_lever s k r q a b e =
     let v = set_parts s.plan s.board q b in
     k.ordered.apart r q (u.0, v.0, e, thrown_once (lever_of s.plan s.board q) (route_of s.plan r).side (route_of s.plan q).side (subst (λ i. thrown (lever_at s.board i) (route_of s.plan r).side ≡ true) e u.1) v.1)
 
-set_keeps : (r : ℕ) (s : State) → answer_of Set r s ≡ Accepted → Safe s → Safe (changed Set r s)
+set_keeps : (r : ℕ) (s : State) → answer_of Set r s ≡ accepted → Safe s → Safe (changed Set r s)
 set_keeps r s h k = record {
   ordered = k.ordered;
   sized = record { points = k.sized.points; levers = length-set s.board.levers x.lever (toward x.side) ∙ k.sized.levers; fields = k.sized.fields; signals = k.sized.signals; lines = k.sized.lines };
@@ -238,7 +236,7 @@ set_keeps r s h k = record {
         (λ e. absurd (both_ways (thrown (lever_of s.plan s.board r) (route_of s.plan q).side) (normal_not_thrown (lever_of s.plan s.board r) (route_of s.plan q).side p.1) (subst (λ i. thrown (lever_at s.board i) (route_of s.plan q).side ≡ true) e w.1)))
         (λ _. w.1))
 
-hold_keeps : (r : ℕ) (s : State) → answer_of Hold r s ≡ Accepted → Safe s → Safe (changed Hold r s)
+hold_keeps : (r : ℕ) (s : State) → answer_of Hold r s ≡ accepted → Safe s → Safe (changed Hold r s)
 hold_keeps r s h k = record {
   ordered = k.ordered;
   sized = record { points = k.sized.points; levers = k.sized.levers; fields = length-set s.board.fields r Held ∙ k.sized.fields; signals = k.sized.signals; lines = k.sized.lines };
@@ -256,7 +254,7 @@ hold_keeps r s h k = record {
     lt : r < length s.board.fields
     lt = field_within s k r p.0
 
-pull_for_keeps : (g : ℕ) (s : State) → g < s.plan.counts.signals → (o : Option ℕ) → set_route_of s.plan s.board g ≡ o → pull_for s.plan s.board g o ≡ Accepted → Safe s → Safe (with_board s (pulled_for s.board g o))
+pull_for_keeps : (g : ℕ) (s : State) → g < s.plan.counts.signals → (o : Option ℕ) → set_route_of s.plan s.board g ≡ o → pull_for s.plan s.board g o ≡ accepted → Safe s → Safe (with_board s (pulled_for s.board g o))
 pull_for_keeps g s l None e h k = k
 pull_for_keeps g s l (Some r) e h k = record {
   ordered = k.ordered;
@@ -284,10 +282,10 @@ pull_for_keeps g s l (Some r) e h k = record {
     lt : r < length s.board.fields
     lt = field_within s k r w.0
 
-pull_keeps : (g : ℕ) (s : State) → answer_of Pull g s ≡ Accepted → Safe s → Safe (changed Pull g s)
+pull_keeps : (g : ℕ) (s : State) → answer_of Pull g s ≡ accepted → Safe s → Safe (changed Pull g s)
 pull_keeps g s h k = let p = pull_passed g s h in pull_for_keeps g s p.0 (set_route_of s.plan s.board g) refl p.1 k
 
-restore_keeps : (g : ℕ) (s : State) → answer_of Restore g s ≡ Accepted → Safe s → Safe (changed Restore g s)
+restore_keeps : (g : ℕ) (s : State) → answer_of Restore g s ≡ accepted → Safe s → Safe (changed Restore g s)
 restore_keeps g s h k = record {
   ordered = k.ordered;
   sized = record { points = k.sized.points; levers = k.sized.levers; fields = k.sized.fields; signals = length-set s.board.signals g arm.Normal ∙ k.sized.signals; lines = k.sized.lines };
@@ -298,7 +296,7 @@ restore_keeps g s h k = record {
   clear_served = λ x c. ⊎_elim (λ a. absurd (both_ways false refl a.1)) (λ a. k.clear_served x a.1) (from_set s.board.signals g x arm.Normal arm.Normal (λ z. is_clear z ≡ true) (arm_within s k g (restore_passed g s h)) c);
 }
 
-contact_keeps : (r : ℕ) (s : State) → answer_of Contact r s ≡ Accepted → Safe s → Safe (changed Contact r s)
+contact_keeps : (r : ℕ) (s : State) → answer_of Contact r s ≡ accepted → Safe s → Safe (changed Contact r s)
 contact_keeps r s h k = record {
   ordered = k.ordered;
   sized = record { points = k.sized.points; levers = k.sized.levers; fields = length-set s.board.fields r Run ∙ k.sized.fields; signals = length-set s.board.signals g (dropped (arm_at s.board g)) ∙ k.sized.signals; lines = k.sized.lines };
@@ -327,7 +325,7 @@ contact_keeps r s h k = record {
     lt : r < length s.board.fields
     lt = field_within s k r p.0
 
-release_keeps : (r : ℕ) (s : State) → answer_of Release r s ≡ Accepted → Safe s → Safe (changed Release r s)
+release_keeps : (r : ℕ) (s : State) → answer_of Release r s ≡ accepted → Safe s → Safe (changed Release r s)
 release_keeps r s h k = record {
   ordered = k.ordered;
   sized = record { points = k.sized.points; levers = k.sized.levers; fields = length-set s.board.fields r x ∙ k.sized.fields; signals = k.sized.signals; lines = k.sized.lines };
@@ -357,7 +355,7 @@ release_keeps r s h k = record {
     lt : r < length s.board.fields
     lt = field_within s k r p.0
 
-normal_keeps : (r : ℕ) (s : State) → answer_of Normal r s ≡ Accepted → Safe s → Safe (changed Normal r s)
+normal_keeps : (r : ℕ) (s : State) → answer_of Normal r s ≡ accepted → Safe s → Safe (changed Normal r s)
 normal_keeps r s h k = record {
   ordered = k.ordered;
   sized = record { points = k.sized.points; levers = length-set s.board.levers (route_of s.plan r).lever lever.Normal ∙ k.sized.levers; fields = k.sized.fields; signals = k.sized.signals; lines = k.sized.lines };
@@ -391,7 +389,7 @@ normal_keeps r s h k = record {
         (λ e. absurd (both_ways (is_held (stage_at s.board r)) p.2 (subst (λ z. is_held (stage_at s.board z) ≡ true) (one_lever s k q r y p.1 e) t)))
         (λ _. w.1))
 
-return_keeps : (r : ℕ) (s : State) → answer_of Return r s ≡ Accepted → Safe s → Safe (changed Return r s)
+return_keeps : (r : ℕ) (s : State) → answer_of Return r s ≡ accepted → Safe s → Safe (changed Return r s)
 return_keeps r s h k = record {
   ordered = k.ordered;
   sized = record { points = k.sized.points; levers = k.sized.levers; fields = length-set s.board.fields r Open ∙ k.sized.fields; signals = k.sized.signals; lines = length-set s.block.out r false ∙ k.sized.lines };
@@ -426,7 +424,7 @@ line_keeps b s k = record {
   clear_served = k.clear_served;
 }
 
-pub keeps : (c : Call) (n : ℕ) (s : State) → answer_of c n s ≡ Accepted → Safe s → Safe (changed c n s)
+pub keeps : (c : Call) (n : ℕ) (s : State) → answer_of c n s ≡ accepted → Safe s → Safe (changed c n s)
 keeps Give n s h k = give_keeps n s h k
 keeps Throw n s h k = throw_keeps n s h k
 keeps Trail n s h k = trail_keeps n s h k
@@ -447,8 +445,8 @@ after_keeps : (c : Call) (n : ℕ) (s : State) → Safe s → Safe (after c n s)
 after_keeps c n s k = go (answer_of c n s) refl
   where
     go : (a : Answer) → answer_of c n s ≡ a → Safe (settled a (changed c n s) s)
-    go Accepted e = keeps c n s e k
-    go (Refused f p) e = k
+    go (Ok _) e = keeps c n s e k
+    go (Err _) e = k
 
 pub entry_keeps : (e : Entry) (s : State) → Safe s → Safe (entry_after e s)
 entry_keeps e s k = go (call_of e.letter)
