@@ -113,10 +113,12 @@ mod tests {
     fn shown<B: Block>(frame: &Frame<B>) -> [bool; 9] {
         [
             frame.is_loaded(),
-            matches!(frame.point(0), Some(point) if matches!(point.coupling, Coupling::Coupled)),
-            matches!(frame.lever(0), Some(Lever::Up)),
-            matches!(frame.field(0), Some(Stage::Cleared)),
-            matches!(frame.arm(0), Some(Arm::Clear)),
+            frame
+                .point(0)
+                .is_some_and(|point| point.coupling == Coupling::Coupled),
+            frame.lever(0) == Some(Lever::Up),
+            frame.field(0) == Some(Stage::Cleared),
+            frame.arm(0) == Some(Arm::Clear),
             frame.is_set(0),
             frame.is_signalled(0),
             frame.is_out(0),
