@@ -74,12 +74,15 @@ impl Lever {
     pub(crate) fn is_thrown(self, side: Side) -> bool
         ensures { result ≡ thrown self side }
     {
-        self == Lever::toward(side)
+        self == Lever::from(side)
     }
+}
 
-    pub(crate) fn toward(side: Side) -> Lever
-        ensures { result ≡ toward side }
-    {
+/// A lever that is thrown to a side.
+impl From<Side> for Lever {
+    ghost from_gives = { λ side lever. lever ≡ toward side };
+
+    fn from(side: Side) -> Lever {
         match side {
             Side::Up => Lever::Up,
             Side::Down => Lever::Down,

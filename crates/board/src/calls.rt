@@ -62,7 +62,7 @@ impl Board {
             check(!self.points[p].is_trailed(), FrameFault::PointTrailed, p)?;
             return Err(FrameFault::PointElsewhere.at(p));
         }
-        self.levers[route.lever] = Lever::toward(route.side);
+        self.levers[route.lever] = Lever::from(route.side);
         Ok(())
     }
 
