@@ -1,6 +1,6 @@
 //! What is looked up on a board under a plan.
 ghost use Rattle.std.specs.Prelude.{◌≡◌, ◌<◌, IfSome};
-ghost use Rattle.board.specs.Boards.{arm_at, claims, dropped, fell, is_set, is_signalled, route_of, serves, with_arm, with_signals};
+ghost use Rattle.board.specs.Boards.{arm_at, claims, dropped, fell, is_set, route_of, serves, with_arm, with_signals};
 ghost use Rattle.board.specs.Calls.{failure_of, is_locked, obstacle_of, set_route_of};
 
 use crate::board::Board;
