@@ -103,10 +103,13 @@ module _ (f : ℕ → Bool) where
       ∙ ap (λ o. option_or o (cond (f n) (Some n) None)) (lowest_listed n)
       ∙ first_or (lowest f n) (cond (f n) (Some n) None)
 
--- What `(0..n).any(f)` and `(0..n).find(f)` answer; f is the test that the closure computes. An answer is one line, as
---   returns c = any_ranged (out_of m rs) m.lines _ _ c.any.result c.any.ensures.ran (cc) (λ x b q k. search (rules, tests))
---   returns c = lowest_ranged (is_clear l) l.routes _ _ c.find.result c.find.ensures.ran (cc) (λ x b q k. search (rules, tests))
--- with `rules` of `Rattle.std.proofs.Common` and `tests` of `borrow.Author.Tests`.
+-- What `(0..n).any(test)` and `(0..n).find(test)` answer, where f is what the test computes. An answer is one line, as
+--   returns g c f h = any_ranged f c.args.n _ _ c.any.result c.any.ensures.ran (cc) (λ x b q k. search (rules, tests, h))
+-- with `rules` of `Rattle.std.proofs.Common` and `tests` of `borrow.Author.Tests`, at a private function
+--   fn any_below<F: Fn(usize) -> bool>(n: usize, test: F) -> bool
+--       requires { F.IsAlwaysCallable test }
+--       ensures { (f : ℕ → Bool) → ((k : ℕ) (b : Bool) → F.post test k b → b ≡ f k) → result ≡ any f n }
+-- whose callers need no answer.
 module _ {F : Type 0} (f : ℕ → Bool) (n : ℕ) {s : Range ℕ} where
   pub any_ranged : {g : Mut F (ℕ × Unit {0}) Bool} (u : Range ℕ) (j : F) (r : Bool)
       → (xs : List ℕ) × (o : Option ℕ) × (p : F) × YieldsThen nat_range_steps s xs o u × FoldsTo (λ p x q. Called g p (x, tt) false q) j xs p × MatchOption o (r ≡ false) (λ x. (r ≡ true) × ((h : F) × Called g p (x, tt) true h))

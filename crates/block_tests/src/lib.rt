@@ -40,7 +40,7 @@ mod tests {
         if route < 2 {
             members[1 - route] = true;
         }
-        RouteSet::of(members)
+        RouteSet::from(members)
     }
 
     fn number_of(answer: Result<(), BlockFault>) -> u8 {

@@ -58,7 +58,7 @@ impl<B: Block> Frame<B> {
         check(self.plan.counts().routes == 0, FrameFault::AlreadyLoaded, 0)?;
         check(routes > 0, FrameFault::NoSuchNumber, 0)?;
         check(self.block.lines() >= routes, FrameFault::TooFewLines, 0)?;
-        let consent_out = self.block.any_out(&RouteSet::of([true; 32]));
+        let consent_out = self.block.any_out(&RouteSet::from([true; 32]));
         check(!consent_out, FrameFault::ConsentOut, 0)?;
         self.plan = plan;
         self.board = Board::new();
