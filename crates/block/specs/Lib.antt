@@ -3,6 +3,7 @@
 pub mod Faults
 pub mod Meaning
 pub mod Calls
+pub mod Consents
 pub mod Fields
 pub mod WirePairs
 pub mod KeyCabinets

@@ -4,6 +4,7 @@ ghost use Rattle.block.specs.Meaning.{Meaning, WellFormed, any_out, is_out};
 ghost use Rattle.block.specs.Calls.{cut_after, cut_answer, give_after, give_answer, mend_after, mend_answer, return_after, return_answer};
 
 use crate::fault::BlockFault;
+use crate::scan::any_below;
 use basics::route_set::RouteSet;
 
 /// A block: each route's consent is at home or out, and the line is whole or cut. A make of it is neither `Copy` nor
@@ -23,15 +24,11 @@ pub trait Block {
         ensures { result ≡ (meaning self.now).whole };
 
     /// Whether the consent of any route of a set is out.
+    #[tactic(auto, unfolding(crate::specs::Meaning::any_out))]
     fn any_out(&self, routes: &RouteSet) -> bool
         ensures { result ≡ any_out (meaning self.now) routes.now.members }
     {
-        for route in 0..self.lines() {
-            if routes.has(route) & self.is_out(route) {
-                return true;
-            }
-        }
-        false
+        any_below(self.lines(), |route| routes.has(route) & self.is_out(route))
     }
 
     /// What a give would be answered.

@@ -1,20 +1,26 @@
-//! Where a key of a cabinet is.
-ghost use Rattle.std.specs.Prelude.{◌≡◌};
+//! A key of a cabinet: it hangs on its hook, or sits in its lock in the signal box.
 ghost use Rattle.block.specs.KeyCabinets.{in_box};
 
-#[derive(Clone, Copy)]
-pub(crate) enum Key {
+use crate::token::Token;
+
+#[derive(Clone, Copy, Debug, PartialEq, Eq)]
+pub enum Key {
     OnHook,
     InBoxLock,
 }
 
-impl Key {
-    pub(crate) fn is_in_box(&self) -> bool
-        ensures { result ≡ in_box self.now }
-    {
-        match self {
-            Key::OnHook => false,
-            Key::InBoxLock => true,
-        }
+impl Token for Key {
+    ghost out = { in_box };
+
+    fn home() -> Key {
+        Key::OnHook
+    }
+
+    fn away() -> Key {
+        Key::InBoxLock
+    }
+
+    fn is_out(&self) -> bool {
+        *self == Key::InBoxLock
     }
 }

@@ -2,47 +2,40 @@
 ghost use Rattle.std.specs.Prelude.{◌≡◌};
 ghost use Rattle.block.specs.Fields.{is_locked, opposite};
 
-#[derive(Clone, Copy)]
-pub(crate) enum Field {
+use crate::token::Token;
+
+#[derive(Clone, Copy, Debug, PartialEq, Eq)]
+enum Field {
     Locked,
     Free,
 }
 
 /// One of its fields is locked, and the other is free.
-#[derive(Clone, Copy)]
-pub(crate) struct Line {
+#[derive(Clone, Copy, Debug, PartialEq, Eq)]
+pub struct Line {
     station: Field,
     signal_box: Field,
     ghost one: { signal_box ≡ opposite station },
 }
 
-impl Line {
-    // The consent is at home.
-    pub(crate) fn home() -> Self
-        ensures { result.station ≡ Field.Free }
-    {
+impl Token for Line {
+    ghost out = { λ l. is_locked l.station };
+
+    fn home() -> Line {
         Line {
             station: Field::Free,
             signal_box: Field::Locked,
         }
     }
 
-    // The consent is out.
-    pub(crate) fn away() -> Self
-        ensures { result.station ≡ Field.Locked }
-    {
+    fn away() -> Line {
         Line {
             station: Field::Locked,
             signal_box: Field::Free,
         }
     }
 
-    pub(crate) fn is_out(&self) -> bool
-        ensures { result ≡ is_locked self.now.station }
-    {
-        match self.station {
-            Field::Locked => true,
-            Field::Free => false,
-        }
+    fn is_out(&self) -> bool {
+        self.station == Field::Locked
     }
 }
