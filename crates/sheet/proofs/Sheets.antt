@@ -1,7 +1,8 @@
 -- The sheet of a plan: its length, and that writing its bits gives its bytes.
 use Rattle.std.proofs.Common.{◌≡◌, ℕ, zero, suc, ◌+◌, ◌-◌, ◌*◌, ◌/◌, ◌≤◌, false, List, [], ◌++◌, length, get_or, drop, replicate, None, sym, refl, ap, ◌∙◌, subst, mul_assoc, suc-mul, mul-le-mul, mul-suc, arith}
 use Rattle.std.proofs.lemmas.List.{length-append, length-replicate}
-use Rattle.sheet.specs.Encode.{bits_of, side_code, release_code, demand_code, flag_code, each, head_bits, demand_bits, named_bits, route_bits, routes_bits, encode, size_of, filled, sheet_of}
+use Rattle.sheet.specs.Codes.{side_code, release_code, demand_code, flag_code}
+use Rattle.sheet.specs.Encode.{bits_of, each, head_bits, demand_bits, named_bits, route_bits, routes_bits, encode, size_of, filled, sheet_of}
 use Rattle.sheet.specs.Layouts.{route_in}
 use Rattle.sheet.specs.Valid.{Few}
 use Rattle.sheet.specs.Writing.{put, Wrote}

@@ -1,7 +1,8 @@
 //! From a plan to the bytes of its sheet.
 ghost use Rattle.std.specs.Prelude.{◌≡◌, ◌+◌, ◌-◌, ◌*◌, ◌/◌, ◌<◌, ◌≤◌, length, take, replicate, IfOk};
 ghost use Rattle.sheet.specs.Decode.{accepted, decode};
-ghost use Rattle.sheet.specs.Encode.{demand_bits, demand_code, each, encode, filled, flag_code, head_bits, named_bits, release_code, route_bits, routes_bits, sheet_of, side_code, size_of};
+ghost use Rattle.sheet.specs.Codes.{demand_code, flag_code, release_code, side_code};
+ghost use Rattle.sheet.specs.Encode.{demand_bits, each, encode, filled, head_bits, named_bits, route_bits, routes_bits, sheet_of, size_of};
 ghost use Rattle.sheet.specs.Valid.{Few, Sound};
 ghost use Rattle.sheet.specs.Writing.{Wrote, writing, written};
 
