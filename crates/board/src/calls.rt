@@ -59,8 +59,12 @@ impl Board {
         )?;
         check(out, FrameFault::ConsentHome, r)?;
         if let Some(p) = self.obstacle(plan, &route) {
-            check(!self.points[p].is_trailed(), FrameFault::PointTrailed, p)?;
-            return Err(FrameFault::PointElsewhere.at(p));
+            let fault = if self.points[p].is_trailed() {
+                FrameFault::PointTrailed
+            } else {
+                FrameFault::PointElsewhere
+            };
+            return Err(fault.at(p));
         }
         self.levers[route.lever] = Lever::from(route.side);
         Ok(())

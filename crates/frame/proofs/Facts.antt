@@ -24,33 +24,28 @@ use Rattle.frame.specs.Law.{StandsAs}
 
 pub unhindered_fits : (d : Option Position) (x : Point) → hinders d x ≡ false → elsewhere d x.position ≡ false
 unhindered_fits None x h = refl
-unhindered_fits (Some Plus) x h = grind arith
-unhindered_fits (Some Minus) x h = grind arith
+unhindered_fits (Some y) x h = grind arith
 
 pub unfailing_coupled : (d : Option Position) (x : Point) → fails d x ≡ false → demanded d ≡ true → is_trailed x ≡ false
 unfailing_coupled d x h t = grind arith
 
 pub undemanded_fits : (d : Option Position) (x : Position) → demanded d ≡ false → elsewhere d x ≡ false
 undemanded_fits None x h = refl
-undemanded_fits (Some Plus) x h = absurd (both_ways true h refl)
-undemanded_fits (Some Minus) x h = absurd (both_ways true h refl)
+undemanded_fits (Some y) x h = absurd (both_ways true h refl)
 
 coupled_by : (x : Coupling) (p : Position) → is_trailed (record { position = p; coupling = x }) ≡ false → x ≡ Coupled
 coupled_by Coupled p h = refl
 coupled_by Trailed p h = absurd (both_ways true h refl)
 
-plus_by : (x : Position) → elsewhere (Some Plus) x ≡ false → x ≡ Plus
-plus_by Plus h = refl
-plus_by Minus h = absurd (both_ways true h refl)
-
-minus_by : (x : Position) → elsewhere (Some Minus) x ≡ false → x ≡ Minus
-minus_by Plus h = absurd (both_ways true h refl)
-minus_by Minus h = refl
+placed_by : (y x : Position) → elsewhere (Some y) x ≡ false → x ≡ y
+placed_by Plus Plus h = refl
+placed_by Plus Minus h = absurd (both_ways true h refl)
+placed_by Minus Plus h = absurd (both_ways true h refl)
+placed_by Minus Minus h = refl
 
 pub stands_as : (d : Option Position) (x : Point) → (demanded d ≡ true → is_trailed x ≡ false) → elsewhere d x.position ≡ false → StandsAs d x
 stands_as None x c e = tt
-stands_as (Some Plus) x c e = (coupled_by x.coupling x.position (c refl), plus_by x.position e)
-stands_as (Some Minus) x c e = (coupled_by x.coupling x.position (c refl), minus_by x.position e)
+stands_as (Some y) x c e = (coupled_by x.coupling x.position (c refl), placed_by y x.position e)
 
 -- Fields and arms
 

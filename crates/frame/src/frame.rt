@@ -58,8 +58,8 @@ impl<B: Block> Frame<B> {
         check(self.plan.counts().routes == 0, FrameFault::AlreadyLoaded, 0)?;
         check(routes > 0, FrameFault::NoSuchNumber, 0)?;
         check(self.block.lines() >= routes, FrameFault::TooFewLines, 0)?;
-        let consent_out = self.block.any_out(&RouteSet::from([true; 32]));
-        check(!consent_out, FrameFault::ConsentOut, 0)?;
+        let all = RouteSet::from([true; 32]);
+        check(!self.block.any_out(&all), FrameFault::ConsentOut, 0)?;
         self.plan = plan;
         self.board = Board::new();
         Ok(())
@@ -165,8 +165,11 @@ impl<B: Block> Frame<B> {
         ensures { Works B.meaning Return r self.old self.new result }
     {
         check(r < self.plan.counts().routes, FrameFault::NoSuchNumber, r)?;
-        let is_set = self.board.is_set(&self.plan, r);
-        check(!is_set, FrameFault::RouteStillSet, r)?;
+        check(
+            !self.board.is_set(&self.plan, r),
+            FrameFault::RouteStillSet,
+            r,
+        )?;
         from_block(self.block.take_back(r), r)?;
         self.board.fields[r] = Stage::Open;
         Ok(())
