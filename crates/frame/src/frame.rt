@@ -165,11 +165,7 @@ impl<B: Block> Frame<B> {
         ensures { Works B.meaning Return r self.old self.new result }
     {
         check(r < self.plan.counts().routes, FrameFault::NoSuchNumber, r)?;
-        check(
-            !self.board.is_set(&self.plan, r),
-            FrameFault::RouteStillSet,
-            r,
-        )?;
+        check(!self.is_set(r), FrameFault::RouteStillSet, r)?;
         from_block(self.block.take_back(r), r)?;
         self.board.fields[r] = Stage::Open;
         Ok(())
