@@ -44,10 +44,7 @@ mod tests {
     }
 
     fn number_of(answer: Result<(), BlockFault>) -> u8 {
-        match answer {
-            Ok(()) => 0,
-            Err(fault) => fault.number(),
-        }
+        answer.err().map_or(0, BlockFault::number)
     }
 
     fn work<B: Block>(block: &mut B, call: Call) -> u8 {
