@@ -71,7 +71,7 @@ impl FrameFault {
 }
 
 /// Which layer refuses, and why.
-#[derive(Clone, Copy)]
+#[derive(Clone, Copy, Debug, PartialEq, Eq)]
 pub enum Fault {
     Sheet(Flaw),
     Frame(FrameFault),
@@ -92,7 +92,7 @@ impl Fault {
 }
 
 /// A refusal, with its fault and its place.
-#[derive(Clone, Copy)]
+#[derive(Clone, Copy, Debug, PartialEq, Eq)]
 pub struct Refusal {
     pub fault: Fault,
     pub place: usize,
