@@ -98,6 +98,7 @@ pub struct Refusal {
     pub place: usize,
 }
 
+/// What a refused sheet is answered.
 impl From<SheetFault> for Refusal {
     ghost from_gives = { λ x r. r ≡ from_sheet x };
 

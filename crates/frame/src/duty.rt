@@ -12,6 +12,7 @@ use block::interface::Block;
 use board::answer::{self, Answer, FrameFault};
 use sheet::plan::Plan;
 
+// Apart from `law_stands`, so that a wrong one is refused where it stands.
 fn law_holds() -> u8
     ensures law { Law }
     ensures calls { CallsGoOn }
@@ -53,7 +54,7 @@ impl<B: Block> Frame<B> {
         entry.place = answer::place(said);
     }
 
-    // Works the entries of a list in their order.
+    // Works the entries of a list in their order. Apart from `run`, so that a wrong `run` is refused where it stands.
     fn work_all(&mut self, entries: &mut [Entry])
         ensures { Runs B.meaning entries.old entries.new self.old self.new }
     {
@@ -69,7 +70,7 @@ impl<B: Block> Frame<B> {
         self.work_all(entries);
     }
 
-    // A loading and, where it is accepted, a list.
+    // A loading and, where it is accepted, a list. Apart from `duty`, so that a wrong `duty` is refused where it stands.
     fn load_and_run(&mut self, plan: Plan, entries: &mut [Entry]) -> Answer
         ensures { Serves B.meaning plan entries.old entries.new self.old self.new result }
     {

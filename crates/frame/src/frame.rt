@@ -65,7 +65,7 @@ impl<B: Block> Frame<B> {
         Ok(())
     }
 
-    // A duty begins with it.
+    // A duty begins with it. Apart from `load`, so that a wrong `load` is refused where it stands.
     fn begin(&mut self, plan: Plan) -> Answer
         ensures { Loads B.meaning plan self.old self.new result }
     {
@@ -207,7 +207,7 @@ impl<B: Block> Frame<B> {
         }
     }
 
-    // Every duty goes on by it.
+    // Every duty goes on by it. Apart from `work`, so that a wrong `work` is refused where it stands.
     fn go_on(&mut self, call: Call, n: usize) -> Answer
         ensures works { Works B.meaning call n self.old self.new result }
         ensures law { GoesOn (view B.meaning self.old) (called call n result ∷ []) (view B.meaning self.new) }
