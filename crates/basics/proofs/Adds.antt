@@ -1,5 +1,5 @@
 -- Entries into a book, one after the other.
-use Rattle.std.proofs.Common.{◌≡◌, ℕ, suc, ◌+◌, ◌-◌, true, false, ltb, List, [], ◌∷◌, ◌++◌, length, take, drop, set, sym, refl, ◌∙◌, ⊎_elim, arith}
+use Rattle.std.proofs.Common.{◌≡◌, ℕ, suc, ◌+◌, ◌-◌, true, false, ltb, List, [], ◌∷◌, ◌++◌, length, take, drop, set, sym, refl, subst, ◌∙◌, ⊎_elim, arith}
 use Rattle.std.proofs.lemmas.List.{append_assoc, take_all, take-append-drop, take_more_set, drop-set-lt, drop_all, length-set}
 use Rattle.std.proofs.lemmas.Bool.{cases_lt, lt-ltb, le-ltb}
 use Rattle.basics.specs.Books.{rows_with, count_with, rows_after, count_after}
@@ -98,3 +98,7 @@ module _ {X : Type 0} where
     filled = count_then a.rows.now a.count ys zs b.rows.now b.count c.count h.written h.filled k.filled;
     lender = k.lender ∙ h.lender;
   }
+
+  -- the same said of an equal book and of an equal list, as at the end of a loop's turn
+  pub added_is : (a b b' : Book X) (ys ys' : List X) → b' ≡ b → ys ≡ ys' → Added a b ys → Added a b' ys'
+  added_is a b b' ys ys' e f h = subst (Added a b') f (subst (λ z. Added a z ys) (sym e) h)
