@@ -1,5 +1,5 @@
--- The number and the place of each answer; which layer refuses is the case of its fault.
-use Rattle.std.specs.Prelude.{ℕ, Ok, Err, Result}
+-- What a call is answered, with its number and its place; which layer refuses is the case of its fault.
+use Rattle.std.specs.Prelude.{ℕ, Bool, cond, Ok, Err, Result}
 use Rattle.sheet.specs.Faults.{number_of}
 use Rattle.sheet.specs.declared.fault.SheetFault.{SheetFault}
 use Rattle.block.specs.Faults.{fault_number}
@@ -8,8 +8,7 @@ use Rattle.board.specs.declared.answer.FrameFault.{FrameFault}
 use Rattle.board.specs.declared.answer.FrameFault.TheVariants.{UnknownCall, NoSuchNumber, AlreadyLoaded, TooFewLines, ConsentOut, PointTrailed, PointLocked, PointCoupled, LeverThrown, ConsentHome, PointElsewhere, RouteNotSet, FieldHeld, ConsentSpent, SignalPulled, NoSetRoute, FieldOpen, SignalNormal, NoTrainAwaited, TrainNotRun, RouteStillSet}
 use Rattle.board.specs.declared.answer.Fault.{Fault}
 use Rattle.board.specs.declared.answer.Fault.TheVariants.{Sheet, Frame, Block}
-use Rattle.board.specs.declared.answer.Answer.{Answer}
-use Rattle.board.specs.declared.answer.Answer.TheVariants.{Accepted, Refused}
+use Rattle.board.specs.declared.answer.Refusal.{Refusal}
 
 abbrev pub frame_number : FrameFault → ℕ
 frame_number UnknownCall = 10
@@ -40,26 +39,43 @@ number_of_fault (Sheet w) = number_of w
 number_of_fault (Frame f) = frame_number f
 number_of_fault (Block f) = fault_number f
 
+abbrev pub Answer : Type 0
+Answer = Result (Unit {0}) Refusal
+
+abbrev pub accepted : Answer
+accepted = Ok tt
+
 abbrev pub answer_number : Answer → ℕ
-answer_number Accepted = 0
-answer_number (Refused f p) = number_of_fault f
+answer_number (Ok _) = 0
+answer_number (Err x) = number_of_fault x.fault
 
 abbrev pub answer_place : Answer → ℕ
-answer_place Accepted = 0
-answer_place (Refused f p) = p
+answer_place (Ok _) = 0
+answer_place (Err x) = x.place
 
--- what is answered where the frame, the sheet or the block refuses
+-- a refusal of the frame, and the answer that it is
+abbrev pub refusal : FrameFault → ℕ → Refusal
+refusal f p = record { fault = Frame f; place = p }
+
 abbrev pub refuse : FrameFault → ℕ → Answer
-refuse f p = Refused (Frame f) p
+refuse f p = Err (refusal f p)
 
-abbrev pub from_sheet : SheetFault → Answer
-from_sheet x = Refused (Sheet x.flaw) x.place
+-- refused where a test fails
+abbrev pub checked : Bool → FrameFault → ℕ → Answer
+checked b f p = cond b accepted (refuse f p)
+
+-- a refusal of the sheet, and one of the block
+abbrev pub from_sheet : SheetFault → Refusal
+from_sheet x = record { fault = Sheet x.flaw; place = x.place }
+
+abbrev pub block_refusal : BlockFault → ℕ → Refusal
+block_refusal f p = record { fault = Block f; place = p }
 
 abbrev pub from_block : Result (Unit {0}) BlockFault → ℕ → Answer
-from_block (Ok _) p = Accepted
-from_block (Err f) p = Refused (Block f) p
+from_block (Ok _) p = accepted
+from_block (Err f) p = Err (block_refusal f p)
 
 -- what a call leaves: the new state where it is accepted, the old one where it is refused
 abbrev pub settled : {X : Type 0} → Answer → X → X → X
-settled Accepted new old = new
-settled (Refused f p) new old = old
+settled (Ok _) new old = new
+settled (Err _) new old = old

@@ -1,14 +1,12 @@
 -- Words for what stands on a board.
-use Rattle.std.specs.Prelude.{ℕ, zero, suc, Bool, true, false, cond, not, ◌&&◌, ◌||◌, List, replicate, ◌==◌, nat_lt, slice_index_or, slice_set}
+use Rattle.std.specs.Prelude.{ℕ, zero, suc, Bool, true, false, cond, not, ◌&&◌, ◌||◌, List, replicate, Some, None, Option, ◌==◌, nat_lt, slice_index_or, slice_set}
 use Rattle.sheet.specs.Layouts.{route_in, demand_of}
 use Rattle.sheet.specs.declared.layout.Side.{Side}
 use Rattle.sheet.specs.declared.layout.Side.TheVariants as side
-use Rattle.sheet.specs.declared.layout.Demand.{Demand}
-use Rattle.sheet.specs.declared.layout.Demand.TheVariants as demand
+use Rattle.sheet.specs.declared.layout.Position.{Position}
+use Rattle.sheet.specs.declared.layout.Position.TheVariants.{Plus, Minus}
 use Rattle.sheet.specs.declared.layout.Route.{Route}
 use Rattle.sheet.specs.declared.layout.Layout.{Layout}
-use Rattle.board.specs.declared.board.Position.{Position}
-use Rattle.board.specs.declared.board.Position.TheVariants.{Plus, Minus}
 use Rattle.board.specs.declared.board.Coupling.{Coupling}
 use Rattle.board.specs.declared.board.Coupling.TheVariants.{Coupled, Trailed}
 use Rattle.board.specs.declared.board.Point.{Point}
@@ -29,25 +27,24 @@ uncoupled Trailed = true
 abbrev pub is_trailed : Point → Bool
 is_trailed x = uncoupled x.coupling
 
-abbrev pub demanded : Demand → Bool
-demanded demand.Nothing = false
-demanded demand.Plus = true
-demanded demand.Minus = true
+abbrev pub demanded : Option Position → Bool
+demanded None = false
+demanded (Some x) = true
 
 -- the position is not the one that is demanded
-abbrev pub elsewhere : Demand → Position → Bool
-elsewhere demand.Nothing x = false
-elsewhere demand.Plus Plus = false
-elsewhere demand.Plus Minus = true
-elsewhere demand.Minus Plus = true
-elsewhere demand.Minus Minus = false
+abbrev pub elsewhere : Option Position → Position → Bool
+elsewhere None x = false
+elsewhere (Some Plus) Plus = false
+elsewhere (Some Plus) Minus = true
+elsewhere (Some Minus) Plus = true
+elsewhere (Some Minus) Minus = false
 
 -- a point that is demanded, and is trailed or in the other position
-abbrev pub hinders : Demand → Point → Bool
+abbrev pub hinders : Option Position → Point → Bool
 hinders d x = demanded d && (is_trailed x || elsewhere d x.position)
 
 -- a point that is demanded and trailed
-abbrev pub fails : Demand → Point → Bool
+abbrev pub fails : Option Position → Point → Bool
 fails d x = demanded d && is_trailed x
 
 abbrev pub flipped : Position → Position

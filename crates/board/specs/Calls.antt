@@ -1,5 +1,5 @@
 -- What each call of the board answers under a plan, its tests in their order, and how the board stands after an accepted one.
-use Rattle.std.specs.Prelude.{ℕ, Bool, cond, not, Some, None, Option}
+use Rattle.std.specs.Prelude.{ℕ, Bool, cond, not, Some, None, Err, Option}
 use Rattle.basics.specs.Scan.{any, lowest}
 use Rattle.sheet.specs.Layouts.{demand_of}
 use Rattle.sheet.specs.declared.layout.Release.{Release}
@@ -8,15 +8,12 @@ use Rattle.sheet.specs.declared.layout.Route.{Route}
 use Rattle.sheet.specs.declared.layout.Layout.{Layout}
 use Rattle.block.specs.declared.fault.BlockFault.TheVariants.{LineCut}
 use Rattle.board.specs.declared.answer.FrameFault.TheVariants.{NoSuchNumber, PointTrailed, PointLocked, PointCoupled, LeverThrown, ConsentHome, PointElsewhere, RouteNotSet, FieldHeld, ConsentSpent, SignalPulled, NoSetRoute, FieldOpen, SignalNormal, NoTrainAwaited, TrainNotRun}
-use Rattle.board.specs.declared.answer.Fault.TheVariants.{Block}
-use Rattle.board.specs.declared.answer.Answer.{Answer}
-use Rattle.board.specs.declared.answer.Answer.TheVariants.{Accepted, Refused}
 use Rattle.board.specs.declared.board.Lever.TheVariants as lever
 use Rattle.board.specs.declared.board.Stage.{Stage}
 use Rattle.board.specs.declared.board.Stage.TheVariants.{Held, Cleared, Run}
 use Rattle.board.specs.declared.board.Arm.TheVariants as arm
 use Rattle.board.specs.declared.board.Board.{Board}
-use Rattle.board.specs.Answers.{refuse}
+use Rattle.board.specs.Answers.{Answer, accepted, refuse, block_refusal}
 use Rattle.board.specs.Boards.{is_trailed, hinders, fails, other_way, trailed_here, coupled_again, is_normal, toward, is_held, is_cleared, is_run, is_spent, released, is_pulled, dropped, point_at, stage_at, arm_at, lever_of, with_point, with_lever, with_stage, with_arm, with_signals, lacks_point, lacks_signal, lacks_route, route_of, is_set, claims, serves, fell}
 
 -- Throw a point
@@ -30,7 +27,7 @@ throw_answer l b p =
     cond (lacks_point l p) (refuse NoSuchNumber p)
     (cond (is_trailed (point_at b p)) (refuse PointTrailed p)
     (cond (is_locked l b p) (refuse PointLocked p)
-    Accepted))
+    accepted))
 
 abbrev pub throw_changed : Layout → Board → ℕ → Board
 throw_changed l b p = with_point b p (other_way (point_at b p))
@@ -41,7 +38,7 @@ abbrev pub trail_answer : Layout → Board → ℕ → Answer
 trail_answer l b p =
     cond (lacks_point l p) (refuse NoSuchNumber p)
     (cond (is_trailed (point_at b p)) (refuse PointTrailed p)
-    Accepted)
+    accepted)
 
 -- the point is trailed, and each arm at clear whose set route demands it falls
 abbrev pub trail_changed : Layout → Board → ℕ → Board
@@ -53,7 +50,7 @@ abbrev pub recouple_answer : Layout → Board → ℕ → Answer
 recouple_answer l b p =
     cond (lacks_point l p) (refuse NoSuchNumber p)
     (cond (not (is_trailed (point_at b p))) (refuse PointCoupled p)
-    Accepted)
+    accepted)
 
 abbrev pub recouple_changed : Layout → Board → ℕ → Board
 recouple_changed l b p = with_point b p (coupled_again (point_at b p))
@@ -69,7 +66,7 @@ abbrev pub obstacle_of : Layout → Board → Route → Option ℕ
 obstacle_of l b x = lowest (hinders_at b x) l.counts.points
 
 abbrev pub unhindered : Board → Option ℕ → Answer
-unhindered b None = Accepted
+unhindered b None = accepted
 unhindered b (Some p) = refuse (cond (is_trailed (point_at b p)) PointTrailed PointElsewhere) p
 
 -- out says whether the route's consent is out
@@ -91,7 +88,7 @@ hold_answer l b r =
     (cond (not (is_set l b r)) (refuse RouteNotSet r)
     (cond (is_held (stage_at b r)) (refuse FieldHeld r)
     (cond (is_spent (stage_at b r)) (refuse ConsentSpent r)
-    Accepted)))
+    accepted)))
 
 abbrev pub hold_changed : Layout → Board → ℕ → Board
 hold_changed l b r = with_stage b r Held
@@ -111,7 +108,7 @@ abbrev pub failure_of : Layout → Board → Route → Option ℕ
 failure_of l b x = lowest (fails_at b x) l.counts.points
 
 abbrev pub unfailing : Option ℕ → Answer
-unfailing None = Accepted
+unfailing None = accepted
 unfailing (Some p) = refuse PointTrailed p
 
 -- by the signal's set route
@@ -141,7 +138,7 @@ abbrev pub restore_answer : Layout → Board → ℕ → Answer
 restore_answer l b g =
     cond (lacks_signal l g) (refuse NoSuchNumber g)
     (cond (not (is_pulled (arm_at b g))) (refuse SignalNormal g)
-    Accepted)
+    accepted)
 
 abbrev pub restore_changed : Layout → Board → ℕ → Board
 restore_changed l b g = with_arm b g arm.Normal
@@ -152,7 +149,7 @@ abbrev pub contact_answer : Layout → Board → ℕ → Answer
 contact_answer l b r =
     cond (lacks_route l r) (refuse NoSuchNumber r)
     (cond (not (is_cleared (stage_at b r))) (refuse NoTrainAwaited r)
-    Accepted)
+    accepted)
 
 -- the train has run, and the arm falls if it is at clear
 abbrev pub contact_changed : Layout → Board → ℕ → Board
@@ -162,8 +159,8 @@ contact_changed l b r = with_arm (with_stage b r Run) (route_of l r).signal (dro
 
 -- a train-worked field waits for its train, a station-worked one for a whole line
 abbrev pub freed : Release → Stage → Bool → ℕ → Answer
-freed Train x whole r = cond (not (is_run x)) (refuse TrainNotRun r) Accepted
-freed Station x whole r = cond (not whole) (Refused (Block LineCut) r) Accepted
+freed Train x whole r = cond (not (is_run x)) (refuse TrainNotRun r) accepted
+freed Station x whole r = cond (not whole) (Err (block_refusal LineCut r)) accepted
 
 -- whole says whether the block's line is whole
 abbrev pub release_answer : Layout → Board → Bool → ℕ → Answer
@@ -183,7 +180,7 @@ normal_answer l b r =
     cond (lacks_route l r) (refuse NoSuchNumber r)
     (cond (not (is_set l b r)) (refuse RouteNotSet r)
     (cond (is_held (stage_at b r)) (refuse FieldHeld r)
-    Accepted))
+    accepted))
 
 abbrev pub normal_changed : Layout → Board → ℕ → Board
 normal_changed l b r = with_lever b (route_of l r).lever lever.Normal

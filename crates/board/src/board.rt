@@ -1,43 +1,18 @@
 //! What stands on the board, and what one part of it can be asked and told.
 ghost use Rattle.std.specs.Prelude.{◌≡◌};
-ghost use Rattle.board.specs.Boards.{coupled_again, demanded, dropped, elsewhere, fails, fresh, hinders, is_clear, is_pulled, is_trailed, other_way, thrown, toward, trailed_here};
+ghost use Rattle.board.specs.Boards.{coupled_again, dropped, fails, fresh, hinders, is_clear, is_held, is_pulled, is_trailed, other_way, released, thrown, toward, trailed_here};
 
-use sheet::layout::{Demand, Side};
-
-#[derive(Clone, Copy)]
-pub enum Position {
-    Plus,
-    Minus,
-}
-
-pub(crate) fn is_demanded(demand: Demand) -> bool
-    ensures { result ≡ demanded demand }
-{
-    match demand {
-        Demand::Nothing => false,
-        Demand::Plus | Demand::Minus => true,
-    }
-}
-
-// Whether the position is not the one that is demanded.
-fn is_elsewhere(demand: Demand, position: Position) -> bool
-    ensures { result ≡ elsewhere demand position }
-{
-    match (demand, position) {
-        (Demand::Plus, Position::Minus) | (Demand::Minus, Position::Plus) => true,
-        _ => false,
-    }
-}
+use sheet::layout::{Position, Side};
 
 /// Whether a point moves with its lever.
-#[derive(Clone, Copy)]
+#[derive(Clone, Copy, Debug, PartialEq, Eq)]
 pub enum Coupling {
     Coupled,
     Trailed,
 }
 
 /// A point: its lever's position, and whether it moves with it.
-#[derive(Clone, Copy)]
+#[derive(Clone, Copy, Debug, PartialEq, Eq)]
 pub struct Point {
     pub position: Position,
     pub coupling: Coupling,
@@ -47,24 +22,21 @@ impl Point {
     pub(crate) fn is_trailed(&self) -> bool
         ensures { result ≡ is_trailed self.now }
     {
-        match self.coupling {
-            Coupling::Coupled => false,
-            Coupling::Trailed => true,
-        }
+        self.coupling == Coupling::Trailed
     }
 
     // Whether it keeps a route that demands this of it from being set.
-    pub(crate) fn hinders(&self, demand: Demand) -> bool
+    pub(crate) fn hinders(&self, demand: Option<Position>) -> bool
         ensures { result ≡ hinders demand self.now }
     {
-        is_demanded(demand) & (self.is_trailed() | is_elsewhere(demand, self.position))
+        demand.is_some_and(|wanted| self.is_trailed() || self.position != wanted)
     }
 
     // Whether it is trailed under a route that demands this of it.
-    pub(crate) fn fails(&self, demand: Demand) -> bool
+    pub(crate) fn fails(&self, demand: Option<Position>) -> bool
         ensures { result ≡ fails demand self.now }
     {
-        is_demanded(demand) & self.is_trailed()
+        demand.is_some() && self.is_trailed()
     }
 
     pub(crate) fn throw(&mut self)
@@ -90,7 +62,8 @@ impl Point {
 }
 
 /// A route lever.
-#[derive(Clone, Copy)]
+// An enum of its own, and not Option<Side>: a host that asks for a lever would be answered an option in an option.
+#[derive(Clone, Copy, Debug, PartialEq, Eq)]
 pub enum Lever {
     Normal,
     Up,
@@ -101,15 +74,15 @@ impl Lever {
     pub(crate) fn is_thrown(self, side: Side) -> bool
         ensures { result ≡ thrown self side }
     {
-        match (self, side) {
-            (Lever::Up, Side::Up) | (Lever::Down, Side::Down) => true,
-            _ => false,
-        }
+        self == Lever::from(side)
     }
+}
 
-    pub(crate) fn toward(side: Side) -> Lever
-        ensures { result ≡ toward side }
-    {
+/// A lever that is thrown to a side.
+impl From<Side> for Lever {
+    ghost from_gives = { λ side lever. lever ≡ toward side };
+
+    fn from(side: Side) -> Lever {
         match side {
             Side::Up => Lever::Up,
             Side::Down => Lever::Down,
@@ -118,7 +91,7 @@ impl Lever {
 }
 
 /// How far a route's field has come under its consent.
-#[derive(Clone, Copy)]
+#[derive(Clone, Copy, Debug, PartialEq, Eq)]
 pub enum Stage {
     Open,
     Held,
@@ -130,8 +103,26 @@ pub enum Stage {
     Spent,
 }
 
+impl Stage {
+    pub(crate) fn is_held(self) -> bool
+        ensures { result ≡ is_held self }
+    {
+        matches!(self, Stage::Held | Stage::Cleared | Stage::Run)
+    }
+
+    // The stage of a field that is released.
+    pub(crate) fn released(self) -> Stage
+        ensures { result ≡ released self }
+    {
+        match self {
+            Stage::Open | Stage::Held | Stage::Cleared => Stage::Open,
+            Stage::Run | Stage::Spent => Stage::Spent,
+        }
+    }
+}
+
 /// A signal lever: normal, or pulled with the arm at clear or fallen.
-#[derive(Clone, Copy)]
+#[derive(Clone, Copy, Debug, PartialEq, Eq)]
 pub enum Arm {
     Normal,
     Clear,
@@ -142,19 +133,13 @@ impl Arm {
     pub(crate) fn is_pulled(self) -> bool
         ensures { result ≡ is_pulled self }
     {
-        match self {
-            Arm::Normal => false,
-            Arm::Clear | Arm::Fallen => true,
-        }
+        self != Arm::Normal
     }
 
     pub fn is_clear(self) -> bool
         ensures { result ≡ is_clear self }
     {
-        match self {
-            Arm::Clear => true,
-            Arm::Normal | Arm::Fallen => false,
-        }
+        self == Arm::Clear
     }
 
     // An arm at clear falls.
@@ -169,7 +154,7 @@ impl Arm {
 }
 
 /// All that moves, as many of each as a plan can have.
-#[derive(Clone, Copy)]
+#[derive(Clone, Copy, Debug, PartialEq, Eq)]
 pub struct Board {
     pub points: [Point; 32],
     pub levers: [Lever; 16],

@@ -1,9 +1,9 @@
 //! What is looked up on a board under a plan.
 ghost use Rattle.std.specs.Prelude.{◌≡◌, ◌<◌, IfSome};
-ghost use Rattle.board.specs.Boards.{arm_at, claims, dropped, fell, is_set, is_signalled, route_of, serves, with_arm, with_signals};
+ghost use Rattle.board.specs.Boards.{arm_at, claims, dropped, fell, is_set, route_of, serves, with_arm, with_signals};
 ghost use Rattle.board.specs.Calls.{failure_of, is_locked, obstacle_of, set_route_of};
 
-use crate::board::{Board, is_demanded};
+use crate::board::Board;
 use sheet::layout::Route;
 use sheet::plan::Plan;
 
@@ -12,10 +12,8 @@ impl Board {
     pub fn is_set(&self, plan: &Plan, r: usize) -> bool
         ensures { result ≡ is_set plan.now.layout self.now r }
     {
-        match plan.route(r) {
-            Some(route) => self.levers[route.lever].is_thrown(route.side),
-            None => false,
-        }
+        plan.route(r)
+            .is_some_and(|route| self.levers[route.lever].is_thrown(route.side))
     }
 
     // Whether a route is set and demands a point.
@@ -23,10 +21,10 @@ impl Board {
         requires { p < 32 }
         ensures { result ≡ claims plan.now.layout self.now p r }
     {
-        match plan.route(r) {
-            Some(route) => self.is_set(plan, r) & is_demanded(route.demands[p]),
-            None => false,
-        }
+        self.is_set(plan, r)
+            && plan
+                .route(r)
+                .is_some_and(|route| route.demands[p].is_some())
     }
 
     // Whether a set route demands a point.
@@ -34,22 +32,14 @@ impl Board {
         requires { p < 32 }
         ensures { result ≡ is_locked plan.now.layout self.now p }
     {
-        for r in 0..plan.counts().routes {
-            if self.claims(plan, p, r) {
-                return true;
-            }
-        }
-        false
+        (0..plan.counts().routes).any(|r| self.claims(plan, p, r))
     }
 
     // Whether a route is set and has a signal.
     fn serves(&self, plan: &Plan, g: usize, r: usize) -> bool
         ensures { result ≡ serves plan.now.layout self.now g r }
     {
-        match plan.route(r) {
-            Some(route) => self.is_set(plan, r) & (route.signal == g),
-            None => false,
-        }
+        self.is_set(plan, r) && plan.route(r).is_some_and(|route| route.signal == g)
     }
 
     // The set route of a signal.
@@ -57,37 +47,23 @@ impl Board {
         ensures value { result ≡ set_route_of plan.now.layout self.now g }
         ensures within { IfSome result (λ r. r < plan.now.layout.counts.routes) }
     {
-        for r in 0..plan.counts().routes {
-            if self.serves(plan, g, r) {
-                return Some(r);
-            }
-        }
-        None
+        (0..plan.counts().routes).find(|&r| self.serves(plan, g, r))
     }
 
     // The lowest point that keeps a route from being set.
+    // It and `failure` differ in one test: a function that took the test would say less of what it finds than these two chains.
     pub(crate) fn obstacle(&self, plan: &Plan, route: &Route) -> Option<usize>
         ensures value { result ≡ obstacle_of plan.now.layout self.now route.now }
         ensures within { IfSome result (λ p. p < 32) }
     {
-        for p in 0..plan.counts().points {
-            if self.points[p].hinders(route.demands[p]) {
-                return Some(p);
-            }
-        }
-        None
+        (0..plan.counts().points).find(|&p| self.points[p].hinders(route.demands[p]))
     }
 
     // The lowest trailed point that a route demands.
     pub(crate) fn failure(&self, plan: &Plan, route: &Route) -> Option<usize>
         ensures { result ≡ failure_of plan.now.layout self.now route.now }
     {
-        for p in 0..plan.counts().points {
-            if self.points[p].fails(route.demands[p]) {
-                return Some(p);
-            }
-        }
-        None
+        (0..plan.counts().points).find(|&p| self.points[p].fails(route.demands[p]))
     }
 
     // Drops the arm of a route's signal, if it is at clear.
@@ -95,12 +71,11 @@ impl Board {
         requires { r < plan.now.layout.counts.routes }
         ensures { self.new ≡ with_arm self.old (route_of plan.now.layout r).signal (dropped (arm_at self.old (route_of plan.now.layout r).signal)) }
     {
-        if let Some(route) = plan.route(r) {
-            self.signals[route.signal] = self.signals[route.signal].dropped();
-        }
+        let route = plan.route(r).unwrap();
+        self.signals[route.signal] = self.signals[route.signal].dropped();
     }
 
-    // Drops each arm at clear whose set route demands a point.
+    // Drops each arm at clear whose set route demands a point. A loop, since each step changes the board that the next one asks.
     pub(crate) fn drop_arms(&mut self, plan: &Plan, p: usize)
         requires { p < 32 }
         ensures { self.new ≡ with_signals self.old (fell plan.now.layout self.old p plan.now.layout.counts.routes) }

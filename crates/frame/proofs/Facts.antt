@@ -1,15 +1,13 @@
 -- Small facts of the parts of a board, and of an element of a list after one was written.
-use Rattle.std.proofs.Common.{◌≡◌, ℕ, ◌<◌, true, false, ltb, ◌≢◌, ◌⊎◌, List, length, get_or, set, sym, refl, ap, ◌∙◌, subst, inl, inr, ⊎_elim, arith}
+use Rattle.std.proofs.Common.{◌≡◌, ℕ, ◌<◌, true, false, ltb, ◌≢◌, ◌⊎◌, List, length, get_or, set, Some, None, Option, sym, refl, ap, ◌∙◌, subst, inl, inr, ⊎_elim, arith}
 use Rattle.std.proofs.lemmas.List.{get_or-set_same, get_or-set_other}
 use Rattle.std.proofs.lemmas.Bool.{and_from, and_parts, both_ways, cases_eq, lt-ltb, ltb-true}
 use Rattle.sheet.specs.declared.layout.Side.{Side}
 use Rattle.sheet.specs.declared.layout.Side.TheVariants as side
-use Rattle.sheet.specs.declared.layout.Demand.{Demand}
-use Rattle.sheet.specs.declared.layout.Demand.TheVariants as demand
+use Rattle.sheet.specs.declared.layout.Position.{Position}
+use Rattle.sheet.specs.declared.layout.Position.TheVariants.{Plus, Minus}
 use Rattle.sheet.specs.declared.layout.Layout.{Layout}
 use Rattle.board.specs.Boards.{is_trailed, demanded, elsewhere, hinders, fails, is_normal, thrown, toward, is_held, is_cleared, released, is_clear, is_pulled, dropped, lever_of, route_of, is_set}
-use Rattle.board.specs.declared.board.Position.{Position}
-use Rattle.board.specs.declared.board.Position.TheVariants.{Plus, Minus}
 use Rattle.board.specs.declared.board.Coupling.{Coupling}
 use Rattle.board.specs.declared.board.Coupling.TheVariants.{Coupled, Trailed}
 use Rattle.board.specs.declared.board.Point.{Point}
@@ -24,35 +22,30 @@ use Rattle.frame.specs.Law.{StandsAs}
 
 -- Points
 
-pub unhindered_fits : (d : Demand) (x : Point) → hinders d x ≡ false → elsewhere d x.position ≡ false
-unhindered_fits demand.Nothing x h = refl
-unhindered_fits demand.Plus x h = grind arith
-unhindered_fits demand.Minus x h = grind arith
+pub unhindered_fits : (d : Option Position) (x : Point) → hinders d x ≡ false → elsewhere d x.position ≡ false
+unhindered_fits None x h = refl
+unhindered_fits (Some y) x h = grind arith
 
-pub unfailing_coupled : (d : Demand) (x : Point) → fails d x ≡ false → demanded d ≡ true → is_trailed x ≡ false
+pub unfailing_coupled : (d : Option Position) (x : Point) → fails d x ≡ false → demanded d ≡ true → is_trailed x ≡ false
 unfailing_coupled d x h t = grind arith
 
-pub undemanded_fits : (d : Demand) (x : Position) → demanded d ≡ false → elsewhere d x ≡ false
-undemanded_fits demand.Nothing x h = refl
-undemanded_fits demand.Plus x h = absurd (both_ways true h refl)
-undemanded_fits demand.Minus x h = absurd (both_ways true h refl)
+pub undemanded_fits : (d : Option Position) (x : Position) → demanded d ≡ false → elsewhere d x ≡ false
+undemanded_fits None x h = refl
+undemanded_fits (Some y) x h = absurd (both_ways true h refl)
 
 coupled_by : (x : Coupling) (p : Position) → is_trailed (record { position = p; coupling = x }) ≡ false → x ≡ Coupled
 coupled_by Coupled p h = refl
 coupled_by Trailed p h = absurd (both_ways true h refl)
 
-plus_by : (x : Position) → elsewhere demand.Plus x ≡ false → x ≡ Plus
-plus_by Plus h = refl
-plus_by Minus h = absurd (both_ways true h refl)
+placed_by : (y x : Position) → elsewhere (Some y) x ≡ false → x ≡ y
+placed_by Plus Plus h = refl
+placed_by Plus Minus h = absurd (both_ways true h refl)
+placed_by Minus Plus h = absurd (both_ways true h refl)
+placed_by Minus Minus h = refl
 
-minus_by : (x : Position) → elsewhere demand.Minus x ≡ false → x ≡ Minus
-minus_by Plus h = absurd (both_ways true h refl)
-minus_by Minus h = refl
-
-pub stands_as : (d : Demand) (x : Point) → (demanded d ≡ true → is_trailed x ≡ false) → elsewhere d x.position ≡ false → StandsAs d x
-stands_as demand.Nothing x c e = tt
-stands_as demand.Plus x c e = (coupled_by x.coupling x.position (c refl), plus_by x.position e)
-stands_as demand.Minus x c e = (coupled_by x.coupling x.position (c refl), minus_by x.position e)
+pub stands_as : (d : Option Position) (x : Point) → (demanded d ≡ true → is_trailed x ≡ false) → elsewhere d x.position ≡ false → StandsAs d x
+stands_as None x c e = tt
+stands_as (Some y) x c e = (coupled_by x.coupling x.position (c refl), placed_by y x.position e)
 
 -- Fields and arms
 

@@ -1,13 +1,11 @@
 -- A duty goes on: by a call, by a list and from its loading.
-use Rattle.std.proofs.Common.{◌≡◌, ℕ, zero, suc, List, [], ◌∷◌, ◌++◌, take, Some, None, Option, sym, refl, ap, ◌∙◌, subst}
+use Rattle.std.proofs.Common.{◌≡◌, ℕ, zero, suc, List, [], ◌∷◌, ◌++◌, take, Some, None, Ok, Err, Option, sym, refl, ap, ◌∙◌, subst}
 use Rattle.std.proofs.lemmas.List.{append_assoc, append-nil}
 use Rattle.sheet.specs.declared.layout.Layout.{Layout}
 use Rattle.sheet.specs.declared.plan.Plan.{Plan}
 use Rattle.block.specs.Meaning.{Meaning, WellFormed}
-use Rattle.board.specs.Answers.{refuse, settled}
+use Rattle.board.specs.Answers.{Answer, accepted, refuse, settled}
 use Rattle.board.specs.declared.answer.FrameFault.TheVariants.{UnknownCall}
-use Rattle.board.specs.declared.answer.Answer.{Answer}
-use Rattle.board.specs.declared.answer.Answer.TheVariants.{Accepted, Refused}
 use Rattle.frame.specs.declared.call.Call.{Call}
 use Rattle.frame.specs.declared.call.Call.TheVariants.{Give, Throw, Trail, Recouple, Set, Hold, Pull, Restore, Contact, Release, Normal, Return, Cut, Mend}
 use Rattle.frame.specs.declared.entry.Entry.{Entry}
@@ -44,8 +42,8 @@ entry_plan : (e : Entry) (s : State) → (entry_after e s).plan ≡ s.plan
 entry_plan e s = go (call_of e.letter)
   where
     by : (c : Call) (a : Answer) → (settled a (changed c e.number s) s).plan ≡ s.plan
-    by c Accepted = changed_plan c e.number s
-    by c (Refused f p) = refl
+    by c (Ok _) = changed_plan c e.number s
+    by c (Err _) = refl
 
     go : (o : Option Call) → plan_of (elim o [ Some c ↦ after c e.number s | None ↦ s ]) ≡ plan_of s
     go (Some c) = by c (answer_of c e.number s)
@@ -97,12 +95,12 @@ call_known Mend = refl
 
 pub goes_on_call : (c : Call) (n : ℕ) (s : State) → GoesOn s (called c n (answer_of c n s) ∷ []) (after c n s)
 goes_on_call c n s =
-    let e = called c n Accepted in
+    let e = called c n accepted in
     subst (λ (o : Option Call). GoesOn s (noted e (elim o [ Some d ↦ answer_of d n s | None ↦ refuse UnknownCall n ]) ∷ []) (elim o [ Some d ↦ after d n s | None ↦ s ])) (call_known c) (goes_on (e ∷ []) s)
 
 -- From its loading
 
-loads : (p : Plan) (s : State) → WellFormed s.block → load_answer p.layout s ≡ Accepted → Duty p s.block [] (loaded p.layout s.block)
+loads : (p : Plan) (s : State) → WellFormed s.block → load_answer p.layout s ≡ accepted → Duty p s.block [] (loaded p.layout s.block)
 loads p s f h = let w = load_passed p.layout s h in loading w.0 f w.1 (none_out s.block f.each f.few w.2)
 
 -- The same, of what stands equal to these
@@ -116,7 +114,7 @@ goes_on_noted es s worked t hw ht = rw (hw, ht) (goes_on es s)
 pub goes_on_each-noted : (es : List Entry) (s : State) (worked : List Entry) → worked ≡ run_noted es s → GoesOnEach s es worked
 goes_on_each-noted es s worked hw = rw hw (goes_on_each es s)
 
-module _ (p : Plan) (s : State) (f : WellFormed s.block) (h : load_answer p.layout s ≡ Accepted) where
+module _ (p : Plan) (s : State) (f : WellFormed s.block) (h : load_answer p.layout s ≡ accepted) where
   pub stands_loaded : (t : State) → t ≡ load_after p.layout s → Stands p s.block [] t
   stands_loaded t e = rw (e, h) (stands p s.block [] (loaded p.layout s.block) (loads p s f h))
 

@@ -5,10 +5,9 @@ use Rattle.std.proofs.lemmas.Bool.{lt-ltb}
 use Rattle.sheet.specs.declared.layout.Release.{Release as ReleasedBy}
 use Rattle.sheet.specs.declared.layout.Release.TheVariants.{Station, Train}
 use Rattle.block.specs.Meaning.{is_out}
-use Rattle.board.specs.Answers.{settled}
+use Rattle.board.specs.Answers.{accepted, settled}
 use Rattle.board.specs.Boards.{arm_at, is_held, is_pulled, is_run, is_set, lever_at, released, route_of, stage_at, thrown}
 use Rattle.board.specs.Calls.{freed}
-use Rattle.board.specs.declared.answer.Answer.TheVariants.{Accepted}
 use Rattle.board.specs.declared.board.Lever.TheVariants as lever
 use Rattle.board.specs.declared.board.Stage.{Stage}
 use Rattle.board.specs.declared.board.Stage.TheVariants.{Open}
@@ -32,7 +31,7 @@ record Way (s : State) (r : ℕ) : Type 0 where
   out : is_out s.block r ≡ true
   whole : s.block.whole ≡ true
 
-return_taken : (s : State) (r : ℕ) → Way s r → is_set s.plan s.board r ≡ false → answer_of Return r s ≡ Accepted
+return_taken : (s : State) (r : ℕ) → Way s r → is_set s.plan s.board r ≡ false → answer_of Return r s ≡ accepted
 return_taken s r w n =
     let a = lt-ltb r (routes s) w.known in
     let l = out_within s.block w.safe.sized.lines r w.out in
@@ -40,21 +39,21 @@ return_taken s r w n =
     let d = w.out in
     grind (arith, a, n, l, c, d)
 
-normal_taken : (s : State) (r : ℕ) → Way s r → is_set s.plan s.board r ≡ true → is_held (stage_at s.board r) ≡ false → answer_of Normal r s ≡ Accepted
+normal_taken : (s : State) (r : ℕ) → Way s r → is_set s.plan s.board r ≡ true → is_held (stage_at s.board r) ≡ false → answer_of Normal r s ≡ accepted
 normal_taken s r w n h = let a = lt-ltb r (routes s) w.known in let t = (set_parts s.plan s.board r n).1 in rw (a, t, h)
 
-gone_freed : (x : ReleasedBy) (g : Stage) (r : ℕ) → (x ≡ Train → is_run g ≡ true) → freed x g true r ≡ Accepted
+gone_freed : (x : ReleasedBy) (g : Stage) (r : ℕ) → (x ≡ Train → is_run g ≡ true) → freed x g true r ≡ accepted
 gone_freed Station g r f = refl
 gone_freed Train g r f = let h = f refl in rw h
 
-release_taken : (s : State) (r : ℕ) → Way s r → is_held (stage_at s.board r) ≡ true → is_pulled (arm_at s.board (route_of s.plan r).signal) ≡ false → TrainGone s r → answer_of Release r s ≡ Accepted
+release_taken : (s : State) (r : ℕ) → Way s r → is_held (stage_at s.board r) ≡ true → is_pulled (arm_at s.board (route_of s.plan r).signal) ≡ false → TrainGone s r → answer_of Release r s ≡ accepted
 release_taken s r w h n f = let a = lt-ltb r (routes s) w.known in let b = w.whole in rw (a, h, n, b) (gone_freed (route_of s.plan r).release (stage_at s.board r) r (λ e. f e h))
 
-restore_taken : (s : State) (r : ℕ) → Way s r → is_pulled (arm_at s.board (route_of s.plan r).signal) ≡ true → answer_of Restore (route_of s.plan r).signal s ≡ Accepted
+restore_taken : (s : State) (r : ℕ) → Way s r → is_pulled (arm_at s.board (route_of s.plan r).signal) ≡ true → answer_of Restore (route_of s.plan r).signal s ≡ accepted
 restore_taken s r w h = let a = lt-ltb (route_of s.plan r).signal s.plan.counts.signals (w.safe.ordered.within r w.known).1 in rw (a, h)
 
 -- one accepted call more, in front
-more : (c : Call) (n r : ℕ) (s : State) (es : List Entry) → entry_answer (unworked (letter c) n) s ≡ answer_of c n s → entry_after (unworked (letter c) n) s ≡ after c n s → answer_of c n s ≡ Accepted → Home (changed c n s) r es → Home s r (unworked (letter c) n ∷ es)
+more : (c : Call) (n r : ℕ) (s : State) (es : List Entry) → entry_answer (unworked (letter c) n) s ≡ answer_of c n s → entry_after (unworked (letter c) n) s ≡ after c n s → answer_of c n s ≡ accepted → Home (changed c n s) r es → Home s r (unworked (letter c) n ∷ es)
 more c n r s es ea eb h k =
     let t : entry_after (unworked (letter c) n) s ≡ changed c n s = eb ∙ ap (λ a. settled a (changed c n s) s) h in
     let k' : Home (entry_after (unworked (letter c) n) s) r es = subst (λ (x : State). Home x r es) (sym t) k in

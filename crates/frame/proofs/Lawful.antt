@@ -1,18 +1,15 @@
 -- The law of a duty, from what each call keeps.
-use Rattle.std.proofs.Common.{◌≡◌, ℕ, ◌+◌, ◌<◌, ◌≤◌, Bool, true, false, cond, ◌&&◌, ◌||◌, eqb, ◌≢◌, List, [], ◌∷◌, ◌++◌, length, get_or, set, Some, None, Option, sym, refl, ap, ◌∙◌, ⊎_elim, arith}
+use Rattle.std.proofs.Common.{◌≡◌, ℕ, ◌+◌, ◌<◌, ◌≤◌, Bool, true, false, cond, ◌&&◌, ◌||◌, eqb, ◌≢◌, List, [], ◌∷◌, ◌++◌, length, get_or, set, Some, None, Ok, Err, Option, sym, refl, ap, ◌∙◌, ⊎_elim, arith}
 use Rattle.std.proofs.lemmas.List.Sums.{fold_push}
 use Rattle.std.proofs.lemmas.Bool.{and_parts, both_ways, cases_eq, eq-eqb, eqb-true, ne_eqb, or_cases}
 use Rattle.basics.proofs.Scans.{lowest_some}
 use Rattle.sheet.specs.declared.plan.Plan.{Plan}
 use Rattle.block.specs.Meaning.{Meaning, is_out}
-use Rattle.board.specs.Answers.{answer_number, refuse, settled}
+use Rattle.board.specs.Answers.{Answer, accepted, answer_number, refusal, refuse, settled}
 use Rattle.board.specs.Boards.{is_held, is_run, is_spent, is_clear, released, stage_at, is_set, is_signalled, serves}
 use Rattle.board.specs.Calls.{set_route_of, pull_for, pulled_for}
 use Rattle.board.specs.declared.answer.FrameFault.TheVariants.{UnknownCall}
-use Rattle.board.specs.declared.answer.Fault.{Fault}
-use Rattle.board.specs.declared.answer.Fault.TheVariants.{Frame}
-use Rattle.board.specs.declared.answer.Answer.{Answer}
-use Rattle.board.specs.declared.answer.Answer.TheVariants.{Accepted, Refused}
+use Rattle.board.specs.declared.answer.Refusal.{Refusal}
 use Rattle.board.specs.declared.board.Stage.{Stage}
 use Rattle.board.specs.declared.board.Stage.TheVariants.{Open, Held, Cleared, Run, Spent}
 use Rattle.frame.specs.declared.call.Call.{Call}
@@ -80,21 +77,21 @@ other_number n r ne = ne_eqb n r (λ e. ne (sym e))
 line_within : (s : State) → Safe s → (r : ℕ) → r < s.block.lines → r < length s.block.out
 line_within s k r l = omega (arith, k.sized.lines)
 
-give_balance : (n : ℕ) (s : State) (r : ℕ) → answer_of Give n s ≡ Accepted → Safe s → Balance Give n s r
+give_balance : (n : ℕ) (s : State) (r : ℕ) → answer_of Give n s ≡ accepted → Safe s → Balance Give n s r
 give_balance n s r h k =
     let p = give_passed n s h in
     by_set s.block.out n r true false (λ z. tick Give Give n r + outs s r ≡ tick Return Give n r + one z) (line_within s k n p.1)
     (λ e. let a = same_number n r e in let b : is_out s.block r ≡ false = ap (is_out s.block) e ∙ p.2 in rw (a, b))
     (λ ne. let a = other_number n r ne in rw a)
 
-return_balance : (n : ℕ) (s : State) (r : ℕ) → answer_of Return n s ≡ Accepted → Safe s → Balance Return n s r
+return_balance : (n : ℕ) (s : State) (r : ℕ) → answer_of Return n s ≡ accepted → Safe s → Balance Return n s r
 return_balance n s r h k =
     let p = return_passed n s h in
     by_set s.block.out n r false false (λ z. tick Give Return n r + outs s r ≡ tick Return Return n r + one z) (line_within s k n p.1)
     (λ e. let a = same_number n r e in let b : is_out s.block r ≡ true = ap (is_out s.block) e ∙ p.3 in rw (a, b))
     (λ ne. let a = other_number n r ne in rw a)
 
-balance : (c : Call) (n : ℕ) (s : State) (r : ℕ) → answer_of c n s ≡ Accepted → Safe s → Balance c n s r
+balance : (c : Call) (n : ℕ) (s : State) (r : ℕ) → answer_of c n s ≡ accepted → Safe s → Balance c n s r
 balance Give n s r h k = give_balance n s r h k
 balance Throw n s r h k = refl
 balance Trail n s r h k = refl
@@ -142,13 +139,13 @@ one_le : (b : Bool) → one b ≤ 1
 one_le true = omega arith
 one_le false = omega arith
 
-give_trains : (n : ℕ) (s : State) (r : ℕ) → answer_of Give n s ≡ Accepted → Safe s → Trains Give n s r
+give_trains : (n : ℕ) (s : State) (r : ℕ) → answer_of Give n s ≡ accepted → Safe s → Trains Give n s r
 give_trains n s r h k =
     by_set s.block.out n r true false (λ z. 0 + one (z && waiting (stage_at s.board r)) ≤ tick Give Give n r + due s r) (line_within s k n (give_passed n s h).1)
     (λ e. let a = same_number n r e in rw a (omega (arith, one_le (waiting (stage_at s.board r)))))
     (λ ne. let a = other_number n r ne in rw a (omega arith))
 
-contact_trains : (n : ℕ) (s : State) (r : ℕ) → answer_of Contact n s ≡ Accepted → Safe s → Trains Contact n s r
+contact_trains : (n : ℕ) (s : State) (r : ℕ) → answer_of Contact n s ≡ accepted → Safe s → Trains Contact n s r
 contact_trains n s r h k =
     let p = contact_passed n s h in
     let c = is_cleared_lem (stage_at s.board n) p.1 in
@@ -161,21 +158,21 @@ contact_trains n s r h k =
     rw (a, b, d) (omega arith))
     (λ ne. let a = other_number n r ne in rw a (omega arith))
 
-pull_trains : (g : ℕ) (s : State) (r : ℕ) → Safe s → (o : Option ℕ) → set_route_of s.plan s.board g ≡ o → pull_for s.plan s.board g o ≡ Accepted → 0 + due (with_board s (pulled_for s.board g o)) r ≤ 0 + due s r
+pull_trains : (g : ℕ) (s : State) (r : ℕ) → Safe s → (o : Option ℕ) → set_route_of s.plan s.board g ≡ o → pull_for s.plan s.board g o ≡ accepted → 0 + due (with_board s (pulled_for s.board g o)) r ≤ 0 + due s r
 pull_trains g s r k None e h = omega arith
 pull_trains g s r k (Some n) e h =
     let w = lowest_some (serves s.plan s.board g) (routes s) n e in
     let u = pull_for_passed s.plan s.board g n h in
     omega (arith, due_same s n Cleared r (field_within s k n w.0) (sym (waiting_pull (stage_at s.board n) u.0 u.1)))
 
-return_trains : (n : ℕ) (s : State) (r : ℕ) → answer_of Return n s ≡ Accepted → Safe s → Trains Return n s r
+return_trains : (n : ℕ) (s : State) (r : ℕ) → answer_of Return n s ≡ accepted → Safe s → Trains Return n s r
 return_trains n s r h k =
     let p = return_passed n s h in
     by_set s.block.out n r false false (λ z. 0 + one (z && waiting (get_or (set s.board.fields n Open) r Open)) ≤ 0 + due s r) (line_within s k n p.1)
     (λ e. omega arith)
     (λ ne. by_set s.board.fields n r Open Open (λ z. 0 + one (is_out s.block r && waiting z) ≤ 0 + due s r) (field_within s k n p.0) (λ e. absurd (ne e)) (λ _. omega arith))
 
-trains : (c : Call) (n : ℕ) (s : State) (r : ℕ) → answer_of c n s ≡ Accepted → Safe s → Trains c n s r
+trains : (c : Call) (n : ℕ) (s : State) (r : ℕ) → answer_of c n s ≡ accepted → Safe s → Trains c n s r
 trains Give n s r h k = give_trains n s r h k
 trains Throw n s r h k = omega arith
 trains Trail n s r h k = omega arith
@@ -192,8 +189,8 @@ trains Cut n s r h k = omega arith
 trains Mend n s r h k = omega arith
 
 -- a refused entry counts for nothing
-refused_number : (f : Fault) (p : ℕ) → eqb (answer_number (Refused f p)) 0 ≡ false
-refused_number f p = grind arith
+refused_number : (x : Refusal) → eqb (answer_number (Err x)) 0 ≡ false
+refused_number x = grind arith
 
 not_did : (a b c : Bool) → c ≡ false → one (a && (b && c)) ≡ 0
 not_did a b c h = grind arith
@@ -204,27 +201,27 @@ Told e s r a t =
     (one (did Give r (noted e a)) + outs s r ≡ one (did Return r (noted e a)) + outs t r) ×
     (one (did Contact r (noted e a)) + due t r ≤ one (did Give r (noted e a)) + due s r)
 
-told_refused : (e : Entry) (s : State) (r : ℕ) (f : Fault) (p : ℕ) → Told e s r (Refused f p) s
-told_refused e s r f p =
-    let x = refused_number f p in
+told_refused : (e : Entry) (s : State) (r : ℕ) (y : Refusal) → Told e s r (Err y) s
+told_refused e s r y =
+    let x = refused_number y in
     let a = not_did (eqb e.letter (letter Give)) (eqb e.number r) _ x in
     let b = not_did (eqb e.letter (letter Return)) (eqb e.number r) _ x in
     let d = not_did (eqb e.letter (letter Contact)) (eqb e.number r) _ x in
     (omega arith, omega arith)
 
-told_accepted : (e : Entry) (s : State) (r : ℕ) (c : Call) → Safe s → e.letter ≡ letter c → answer_of c e.number s ≡ Accepted → Told e s r Accepted (changed c e.number s)
+told_accepted : (e : Entry) (s : State) (r : ℕ) (c : Call) → Safe s → e.letter ≡ letter c → answer_of c e.number s ≡ accepted → Told e s r accepted (changed c e.number s)
 told_accepted e s r c k l h = rw l (balance c e.number s r h k, trains c e.number s r h k)
 
 told : (e : Entry) (s : State) (r : ℕ) → Safe s → Told e s r (entry_answer e s) (entry_after e s)
 told e s r k = go (call_of e.letter) refl
   where
     by : (c : Call) → e.letter ≡ letter c → (a : Answer) → answer_of c e.number s ≡ a → Told e s r a (settled a (changed c e.number s) s)
-    by c l Accepted h = told_accepted e s r c k l h
-    by c l (Refused f p) h = told_refused e s r f p
+    by c l (Ok _) h = told_accepted e s r c k l h
+    by c l (Err y) h = told_refused e s r y
 
     go : (o : Option Call) → call_of e.letter ≡ o → Told e s r (elim o [ Some c ↦ answer_of c e.number s | None ↦ refuse UnknownCall e.number ]) (elim o [ Some c ↦ after c e.number s | None ↦ s ])
     go (Some c) h = by c (call_code e.letter c h) (answer_of c e.number s) refl
-    go None h = told_refused e s r (Frame UnknownCall) e.number
+    go None h = told_refused e s r (refusal UnknownCall e.number)
 
 -- once the train has run, none is due
 ran_step : (g a b : Bool) (d d' : ℕ) → one a + d' ≤ one g + d → d ≤ 1 → (b ≡ true → d ≡ 0) → cond g false (cond a true b) ≡ true → d' ≡ 0

@@ -2,8 +2,7 @@
 use Rattle.std.proofs.Common.{◌≡◌, ℕ, ◌+◌, ◌<◌, ◌≤◌, List, [], ◌∷◌, ◌++◌, length, get_or, take, drop, set, sym, ap, ◌∙◌, arith}
 use Rattle.std.proofs.lemmas.List.{append_assoc, append-nil, drop_all, drop_more, drop-set-lt, take_all, take_more_set}
 use Rattle.sheet.specs.declared.layout.Layout.{Layout}
-use Rattle.board.specs.Answers.{settled}
-use Rattle.board.specs.declared.answer.Answer.TheVariants.{Accepted}
+use Rattle.board.specs.Answers.{accepted, settled}
 use Rattle.frame.specs.declared.entry.Entry.{Entry}
 use Rattle.frame.specs.Calls.{State, load_answer, load_after, loaded}
 use Rattle.frame.specs.Entries.{noted, entry_answer, entry_after, unworked}
@@ -34,5 +33,5 @@ module _ (all : List Entry) (start : State) where
       let h1 : es ++ [] ≡ run_noted all start = rw (d, t) at h.1 in
       (sym (append-nil es) ∙ h1, rw d at h.0)
 
-pub load_stands : (l : Layout) (s s' : State) → Accepted ≡ load_answer l s → s' ≡ load_after l s → s' ≡ loaded l s.block
+pub load_stands : (l : Layout) (s s' : State) → accepted ≡ load_answer l s → s' ≡ load_after l s → s' ≡ loaded l s.block
 load_stands l s s' a h = h ∙ ap (λ x. settled x (loaded l s.block) s) (sym a)

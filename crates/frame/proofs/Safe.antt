@@ -1,5 +1,5 @@
 -- What every call keeps, and that each keeps it.
-use Rattle.std.proofs.Common.{◌≡◌, ℕ, ◌<◌, ◌≤◌, Bool, true, false, eqb, ◌≢◌, ◌⊎◌, length, get_or, replicate, Some, None, Option, sym, refl, ap, ◌∙◌, subst, inl, inr, ⊎_elim, arith, length-set}
+use Rattle.std.proofs.Common.{◌≡◌, ℕ, ◌<◌, ◌≤◌, Bool, true, false, eqb, ◌≢◌, ◌⊎◌, length, get_or, replicate, Some, None, Ok, Err, Option, sym, refl, ap, ◌∙◌, subst, inl, inr, ⊎_elim, arith, length-set}
 use lib.ListN.{length-replicate}
 use Rattle.std.proofs.lemmas.List.{get_or-set_same, get_or_past, get_or-replicate}
 use Rattle.std.proofs.lemmas.Bool.{and_cases, and_from, and_parts, both_ways, cases_lt, eqb-true}
@@ -7,20 +7,21 @@ use Rattle.basics.proofs.Scans.{any_none, lowest_none, lowest_some}
 use Rattle.sheet.specs.Hostility.{are_hostile, hostiles_of}
 use Rattle.sheet.specs.Layouts.{demand_of}
 use Rattle.sheet.specs.Valid.{Few, Within, Apart}
-use Rattle.sheet.specs.declared.layout.Demand.{Demand}
+use Rattle.sheet.specs.declared.layout.Position.{Position}
 use Rattle.sheet.specs.declared.layout.Route.{Route}
 use Rattle.sheet.specs.declared.layout.Layout.{Layout}
 use Rattle.sheet.proofs.Opponents.{hostile_symmetric}
 use Rattle.block.specs.Meaning.{Meaning, is_out, any_out, with_out, with_whole}
-use Rattle.board.specs.Answers.{settled}
-use Rattle.board.specs.Boards.{is_trailed, demanded, elsewhere, plus_point, is_normal, thrown, toward, is_held, is_cleared, is_run, is_spent, released, is_clear, is_pulled, dropped, fresh, point_at, stage_at, arm_at, lever_at, lever_of, route_of, is_set, claims, serves}
+use Rattle.board.specs.Answers.{Answer, accepted, settled}
+use Rattle.board.specs.Boards.{is_trailed, demanded, elsewhere, trailed_here, plus_point, is_normal, thrown, toward, is_held, is_cleared, is_run, is_spent, released, is_clear, is_pulled, dropped, fresh, point_at, stage_at, arm_at, lever_at, lever_of, with_point, with_lever, with_stage, with_arm, route_of, is_set, claims, serves}
 use Rattle.board.specs.Calls.{is_locked, hinders_at, obstacle_of, fails_at, failure_of, set_route_of, pull_for, pulled_for, set_changed, normal_changed}
-use Rattle.board.specs.declared.answer.Answer.{Answer}
-use Rattle.board.specs.declared.answer.Answer.TheVariants.{Accepted, Refused}
 use Rattle.board.specs.declared.board.Board.{Board}
+use Rattle.board.specs.declared.board.Point.{Point}
+use Rattle.board.specs.declared.board.Lever.{Lever}
 use Rattle.board.specs.declared.board.Lever.TheVariants as lever
 use Rattle.board.specs.declared.board.Stage.{Stage}
 use Rattle.board.specs.declared.board.Stage.TheVariants.{Open, Held, Cleared, Run}
+use Rattle.board.specs.declared.board.Arm.{Arm}
 use Rattle.board.specs.declared.board.Arm.TheVariants as arm
 use Rattle.frame.specs.declared.call.Call.{Call}
 use Rattle.frame.specs.declared.call.Call.TheVariants.{Give, Throw, Trail, Recouple, Set, Hold, Pull, Restore, Contact, Release, Normal, Return, Cut, Mend}
@@ -46,7 +47,7 @@ pub record Sized (b : Board) (m : Meaning) : Type 0 where
   pub signals : length b.signals ≡ 32
   pub lines : length m.out ≡ m.lines
 
-abbrev pub demand_at : Layout → ℕ → ℕ → Demand
+abbrev pub demand_at : Layout → ℕ → ℕ → Option Position
 demand_at l r p = demand_of (route_of l r) p
 
 -- the route is set behind the signal, is held and cleared, and its points are coupled
@@ -79,15 +80,49 @@ signal_within s k r l = arm_within s k (route_of s.plan r).signal (k.ordered.wit
 pub lever_within : (s : State) → Safe s → (r : ℕ) → r < routes s → (route_of s.plan r).lever < length s.board.levers
 lever_within s k r l = omega (arith, (k.ordered.within r l).0, k.sized.levers, k.ordered.few.2)
 
--- Sizes after a change
+-- After a change: the sizes
 
-sized_out : (b : Board) (m : Meaning) (r : ℕ) (x : Bool) → Sized b m → Sized b (with_out m r x)
-sized_out b m r x z = record { points = z.points; levers = z.levers; fields = z.fields; signals = z.signals; lines = length-set m.out r x ∙ z.lines }
+module _ {b : Board} {m : Meaning} (z : Sized b m) where
+  sized_point : (p : ℕ) (x : Point) → Sized (with_point b p x) m
+  sized_point p x = record { points = length-set b.points p x ∙ z.points; levers = z.levers; fields = z.fields; signals = z.signals; lines = z.lines }
 
-give_keeps : (r : ℕ) (s : State) → answer_of Give r s ≡ Accepted → Safe s → Safe (changed Give r s)
+  sized_lever : (v : ℕ) (x : Lever) → Sized (with_lever b v x) m
+  sized_lever v x = record { points = z.points; levers = length-set b.levers v x ∙ z.levers; fields = z.fields; signals = z.signals; lines = z.lines }
+
+  sized_stage : (r : ℕ) (x : Stage) → Sized (with_stage b r x) m
+  sized_stage r x = record { points = z.points; levers = z.levers; fields = length-set b.fields r x ∙ z.fields; signals = z.signals; lines = z.lines }
+
+  sized_arm : (g : ℕ) (x : Arm) → Sized (with_arm b g x) m
+  sized_arm g x = record { points = z.points; levers = z.levers; fields = z.fields; signals = length-set b.signals g x ∙ z.signals; lines = z.lines }
+
+  sized_out : (r : ℕ) (x : Bool) → Sized b (with_out m r x)
+  sized_out r x = record { points = z.points; levers = z.levers; fields = z.fields; signals = z.signals; lines = length-set m.out r x ∙ z.lines }
+
+-- After a point was trailed or coupled, which leaves its position: it is where it was
+
+placed_point : (s : State) (p : ℕ) (x : Point) → x.position ≡ (point_at s.board p).position → p < length s.board.points → (d : Option Position) (q : ℕ) → elsewhere d (point_at s.board q).position ≡ false → elsewhere d (point_at (with_point s.board p x) q).position ≡ false
+placed_point s p x same lt d q h =
+    by_set s.board.points p q x plus_point (λ z. elsewhere d z.position ≡ false) lt
+    (λ e. ap (elsewhere d) same ∙ subst (λ z. elsewhere d (point_at s.board z).position ≡ false) e h)
+    (λ ne. h)
+
+-- After a field was written: what is held is set, and who guards a signal guards it still
+
+module _ (s : State) (k : Safe s) (r : ℕ) (x : Stage) (l : r < routes s) where
+  held_stage : (is_held x ≡ true → is_set s.plan s.board r ≡ true) → (q : ℕ) → is_held (stage_at (with_stage s.board r x) q) ≡ true → is_set s.plan s.board q ≡ true
+  held_stage h q t =
+      ⊎_elim
+      (λ u. subst (λ z. is_set s.plan s.board z ≡ true) (sym u.0) (h u.1))
+      (λ u. k.held_set q u.1)
+      (from_set s.board.fields r q x Open (λ z. is_held z ≡ true) (field_within s k r l) t)
+
+  served_stage : {g : ℕ} → (v : (q : ℕ) × Served s.plan s.board g q) → (v.0 ≡ r → x ≡ Cleared) → (q : ℕ) × Served s.plan (with_stage s.board r x) g q
+  served_stage v h = (v.0, (v.1.0, v.1.1, by_set s.board.fields r v.0 x Open (λ z. z ≡ Cleared) (field_within s k r l) h (λ _. v.1.2), v.1.3))
+
+give_keeps : (r : ℕ) (s : State) → answer_of Give r s ≡ accepted → Safe s → Safe (changed Give r s)
 give_keeps r s h k = record {
   ordered = k.ordered;
-  sized = sized_out s.board s.block r true k.sized;
+  sized = sized_out k.sized r true;
   set_out = λ q t. by_set s.block.out r q true false (λ z. z ≡ true) lt (λ _. refl) (λ ne. k.set_out q t);
   out_apart = λ x y w a b.
       ⊎_elim
@@ -115,10 +150,10 @@ give_keeps r s h k = record {
     was : (q : ℕ) → is_out (with_out s.block r true) q ≡ true → ((q ≡ r) × (true ≡ true)) ⊎ ((q ≢ r) × (is_out s.block q ≡ true))
     was q o = from_set s.block.out r q true false (λ z. z ≡ true) lt o
 
-throw_keeps : (p : ℕ) (s : State) → answer_of Throw p s ≡ Accepted → Safe s → Safe (changed Throw p s)
+throw_keeps : (p : ℕ) (s : State) → answer_of Throw p s ≡ accepted → Safe s → Safe (changed Throw p s)
 throw_keeps p s h k = record {
   ordered = k.ordered;
-  sized = record { points = length-set s.board.points p _ ∙ k.sized.points; levers = k.sized.levers; fields = k.sized.fields; signals = k.sized.signals; lines = k.sized.lines };
+  sized = sized_point k.sized p _;
   set_out = k.set_out;
   out_apart = k.out_apart;
   set_placed = λ r t q m.
@@ -143,16 +178,13 @@ throw_keeps p s h k = record {
         (λ a. subst (λ z. demanded (demand_at s.plan r z) ≡ false) (sym e) a)
         (and_cases (is_set s.plan s.board r) (demanded (demand_at s.plan r p)) (any_none (claims s.plan s.board p) (routes s) r w.2 (set_parts s.plan s.board r t).0))
 
-trail_keeps : (p : ℕ) (s : State) → answer_of Trail p s ≡ Accepted → Safe s → Safe (changed Trail p s)
+trail_keeps : (p : ℕ) (s : State) → answer_of Trail p s ≡ accepted → Safe s → Safe (changed Trail p s)
 trail_keeps p s h k = record {
   ordered = k.ordered;
-  sized = record { points = length-set s.board.points p _ ∙ k.sized.points; levers = k.sized.levers; fields = k.sized.fields; signals = fell_long s.plan s.board p (routes s) ∙ k.sized.signals; lines = k.sized.lines };
+  sized = let z = sized_point k.sized p (trailed_here (point_at s.board p)) in record { points = z.points; levers = z.levers; fields = z.fields; signals = fell_long s.plan s.board p (routes s) ∙ z.signals; lines = z.lines };
   set_out = k.set_out;
   out_apart = k.out_apart;
-  set_placed = λ r t q m.
-      by_set s.board.points p q _ plus_point (λ z. elsewhere (demand_at s.plan r q) z.position ≡ false) lt
-      (λ e. subst (λ z. elsewhere (demand_at s.plan r q) (point_at s.board z).position ≡ false) e (k.set_placed r t q m))
-      (λ ne. k.set_placed r t q m);
+  set_placed = λ r t q m. placed_point s p _ refl lt (demand_at s.plan r q) q (k.set_placed r t q m);
   held_set = k.held_set;
   clear_served = λ g c.
       let f = fell_clear s.plan s.board p (routes s) g (signal_within s k) c in
@@ -173,16 +205,13 @@ trail_keeps p s h k = record {
     lt : p < length s.board.points
     lt = point_within s k p (trail_passed p s h)
 
-recouple_keeps : (p : ℕ) (s : State) → answer_of Recouple p s ≡ Accepted → Safe s → Safe (changed Recouple p s)
+recouple_keeps : (p : ℕ) (s : State) → answer_of Recouple p s ≡ accepted → Safe s → Safe (changed Recouple p s)
 recouple_keeps p s h k = record {
   ordered = k.ordered;
-  sized = record { points = length-set s.board.points p _ ∙ k.sized.points; levers = k.sized.levers; fields = k.sized.fields; signals = k.sized.signals; lines = k.sized.lines };
+  sized = sized_point k.sized p _;
   set_out = k.set_out;
   out_apart = k.out_apart;
-  set_placed = λ r t q m.
-      by_set s.board.points p q _ plus_point (λ z. elsewhere (demand_at s.plan r q) z.position ≡ false) lt
-      (λ e. subst (λ z. elsewhere (demand_at s.plan r q) (point_at s.board z).position ≡ false) e (k.set_placed r t q m))
-      (λ ne. k.set_placed r t q m);
+  set_placed = λ r t q m. placed_point s p _ refl lt (demand_at s.plan r q) q (k.set_placed r t q m);
   held_set = k.held_set;
   clear_served = λ g c. let v = k.clear_served g c in
       (v.0, (v.1.0, v.1.1, v.1.2, λ q m d. by_set s.board.points p q _ plus_point (λ z. is_trailed z ≡ false) lt (λ _. refl) (λ ne. v.1.3 q m d)));
@@ -198,10 +227,10 @@ one_lever s k r q a b e =
     let v = set_parts s.plan s.board q b in
     k.ordered.apart r q (u.0, v.0, e, thrown_once (lever_of s.plan s.board q) (route_of s.plan r).side (route_of s.plan q).side (subst (λ i. thrown (lever_at s.board i) (route_of s.plan r).side ≡ true) e u.1) v.1)
 
-set_keeps : (r : ℕ) (s : State) → answer_of Set r s ≡ Accepted → Safe s → Safe (changed Set r s)
+set_keeps : (r : ℕ) (s : State) → answer_of Set r s ≡ accepted → Safe s → Safe (changed Set r s)
 set_keeps r s h k = record {
   ordered = k.ordered;
-  sized = record { points = k.sized.points; levers = length-set s.board.levers x.lever (toward x.side) ∙ k.sized.levers; fields = k.sized.fields; signals = k.sized.signals; lines = k.sized.lines };
+  sized = sized_lever k.sized x.lever _;
   set_out = λ q t. ⊎_elim (λ e. subst (λ z. is_out s.block z ≡ true) (sym e) p.2) (λ o. k.set_out q o) (was q t);
   out_apart = k.out_apart;
   set_placed = λ q t i m.
@@ -238,37 +267,34 @@ set_keeps r s h k = record {
         (λ e. absurd (both_ways (thrown (lever_of s.plan s.board r) (route_of s.plan q).side) (normal_not_thrown (lever_of s.plan s.board r) (route_of s.plan q).side p.1) (subst (λ i. thrown (lever_at s.board i) (route_of s.plan q).side ≡ true) e w.1)))
         (λ _. w.1))
 
-hold_keeps : (r : ℕ) (s : State) → answer_of Hold r s ≡ Accepted → Safe s → Safe (changed Hold r s)
+hold_keeps : (r : ℕ) (s : State) → answer_of Hold r s ≡ accepted → Safe s → Safe (changed Hold r s)
 hold_keeps r s h k = record {
   ordered = k.ordered;
-  sized = record { points = k.sized.points; levers = k.sized.levers; fields = length-set s.board.fields r Held ∙ k.sized.fields; signals = k.sized.signals; lines = k.sized.lines };
+  sized = sized_stage k.sized r Held;
   set_out = k.set_out;
   out_apart = k.out_apart;
   set_placed = k.set_placed;
-  held_set = λ q t. ⊎_elim (λ u. subst (λ z. is_set s.plan s.board z ≡ true) (sym u.0) p.1) (λ u. k.held_set q u.1) (from_set s.board.fields r q Held Open (λ z. is_held z ≡ true) lt t);
+  held_set = held_stage s k r Held p.0 (λ _. p.1);
   clear_served = λ g c. let v = k.clear_served g c in
-      (v.0, (v.1.0, v.1.1, by_set s.board.fields r v.0 Held Open (λ z. z ≡ Cleared) lt (λ e. absurd (both_ways (is_held (stage_at s.board r)) p.2 (cleared_held _ (subst (λ z. stage_at s.board z ≡ Cleared) e v.1.2)))) (λ _. v.1.2), v.1.3));
+      served_stage s k r Held p.0 v (λ e. absurd (both_ways (is_held (stage_at s.board r)) p.2 (cleared_held _ (subst (λ z. stage_at s.board z ≡ Cleared) e v.1.2))));
 }
   where
     p : (r < routes s) × (is_set s.plan s.board r ≡ true) × (is_held (stage_at s.board r) ≡ false) × (is_spent (stage_at s.board r) ≡ false)
     p = hold_passed r s h
 
-    lt : r < length s.board.fields
-    lt = field_within s k r p.0
-
-pull_for_keeps : (g : ℕ) (s : State) → g < s.plan.counts.signals → (o : Option ℕ) → set_route_of s.plan s.board g ≡ o → pull_for s.plan s.board g o ≡ Accepted → Safe s → Safe (with_board s (pulled_for s.board g o))
+pull_for_keeps : (g : ℕ) (s : State) → g < s.plan.counts.signals → (o : Option ℕ) → set_route_of s.plan s.board g ≡ o → pull_for s.plan s.board g o ≡ accepted → Safe s → Safe (with_board s (pulled_for s.board g o))
 pull_for_keeps g s l None e h k = k
 pull_for_keeps g s l (Some r) e h k = record {
   ordered = k.ordered;
-  sized = record { points = k.sized.points; levers = k.sized.levers; fields = length-set s.board.fields r Cleared ∙ k.sized.fields; signals = length-set s.board.signals g arm.Clear ∙ k.sized.signals; lines = k.sized.lines };
+  sized = sized_stage (sized_arm k.sized g arm.Clear) r Cleared;
   set_out = k.set_out;
   out_apart = k.out_apart;
   set_placed = k.set_placed;
-  held_set = λ q t. ⊎_elim (λ u. subst (λ z. is_set s.plan s.board z ≡ true) (sym u.0) v.0) (λ u. k.held_set q u.1) (from_set s.board.fields r q Cleared Open (λ z. is_held z ≡ true) lt t);
+  held_set = held_stage s k r Cleared w.0 (λ _. v.0);
   clear_served = λ x c.
       ⊎_elim
       (λ a. (r, (v.0, eqb-true (route_of s.plan r).signal g v.1 ∙ sym a.0, get_or-set_same s.board.fields r Cleared Open lt, λ i n d. unfailing_coupled (demand_at s.plan r i) (point_at s.board i) (lowest_none (fails_at s.board (route_of s.plan r)) s.plan.counts.points i u.2 n) d)))
-      (λ a. let y = k.clear_served x a.1 in (y.0, (y.1.0, y.1.1, by_set s.board.fields r y.0 Cleared Open (λ z. z ≡ Cleared) lt (λ _. refl) (λ _. y.1.2), y.1.3)))
+      (λ a. served_stage s k r Cleared w.0 (k.clear_served x a.1) (λ _. refl))
       (from_set s.board.signals g x arm.Clear arm.Normal (λ z. is_clear z ≡ true) (arm_within s k g l) c);
 }
   where
@@ -284,13 +310,13 @@ pull_for_keeps g s l (Some r) e h k = record {
     lt : r < length s.board.fields
     lt = field_within s k r w.0
 
-pull_keeps : (g : ℕ) (s : State) → answer_of Pull g s ≡ Accepted → Safe s → Safe (changed Pull g s)
+pull_keeps : (g : ℕ) (s : State) → answer_of Pull g s ≡ accepted → Safe s → Safe (changed Pull g s)
 pull_keeps g s h k = let p = pull_passed g s h in pull_for_keeps g s p.0 (set_route_of s.plan s.board g) refl p.1 k
 
-restore_keeps : (g : ℕ) (s : State) → answer_of Restore g s ≡ Accepted → Safe s → Safe (changed Restore g s)
+restore_keeps : (g : ℕ) (s : State) → answer_of Restore g s ≡ accepted → Safe s → Safe (changed Restore g s)
 restore_keeps g s h k = record {
   ordered = k.ordered;
-  sized = record { points = k.sized.points; levers = k.sized.levers; fields = k.sized.fields; signals = length-set s.board.signals g arm.Normal ∙ k.sized.signals; lines = k.sized.lines };
+  sized = sized_arm k.sized g arm.Normal;
   set_out = k.set_out;
   out_apart = k.out_apart;
   set_placed = k.set_placed;
@@ -298,23 +324,18 @@ restore_keeps g s h k = record {
   clear_served = λ x c. ⊎_elim (λ a. absurd (both_ways false refl a.1)) (λ a. k.clear_served x a.1) (from_set s.board.signals g x arm.Normal arm.Normal (λ z. is_clear z ≡ true) (arm_within s k g (restore_passed g s h)) c);
 }
 
-contact_keeps : (r : ℕ) (s : State) → answer_of Contact r s ≡ Accepted → Safe s → Safe (changed Contact r s)
+contact_keeps : (r : ℕ) (s : State) → answer_of Contact r s ≡ accepted → Safe s → Safe (changed Contact r s)
 contact_keeps r s h k = record {
   ordered = k.ordered;
-  sized = record { points = k.sized.points; levers = k.sized.levers; fields = length-set s.board.fields r Run ∙ k.sized.fields; signals = length-set s.board.signals g (dropped (arm_at s.board g)) ∙ k.sized.signals; lines = k.sized.lines };
+  sized = sized_arm (sized_stage k.sized r Run) g (dropped (arm_at s.board g));
   set_out = k.set_out;
   out_apart = k.out_apart;
   set_placed = k.set_placed;
-  held_set = λ q t.
-      ⊎_elim
-      (λ u. subst (λ z. is_set s.plan s.board z ≡ true) (sym u.0) (k.held_set r (cleared_held _ (is_cleared_lem _ p.1))))
-      (λ u. k.held_set q u.1)
-      (from_set s.board.fields r q Run Open (λ z. is_held z ≡ true) lt t);
+  held_set = held_stage s k r Run p.0 (λ _. k.held_set r (cleared_held _ (is_cleared_lem _ p.1)));
   clear_served = λ x c.
       ⊎_elim
       (λ a. absurd (both_ways (is_clear (dropped (arm_at s.board g))) (dropped-fell (arm_at s.board g)) a.1))
-      (λ a. let v = k.clear_served x a.1 in
-      (v.0, (v.1.0, v.1.1, by_set s.board.fields r v.0 Run Open (λ z. z ≡ Cleared) lt (λ e. absurd (a.0 (sym v.1.1 ∙ ap (λ z. (route_of s.plan z).signal) e))) (λ _. v.1.2), v.1.3)))
+      (λ a. let v = k.clear_served x a.1 in served_stage s k r Run p.0 v (λ e. absurd (a.0 (sym v.1.1 ∙ ap (λ z. (route_of s.plan z).signal) e))))
       (from_set s.board.signals g x (dropped (arm_at s.board g)) arm.Normal (λ z. is_clear z ≡ true) (signal_within s k r p.0) c);
 }
   where
@@ -324,28 +345,16 @@ contact_keeps r s h k = record {
     p : (r < routes s) × (is_cleared (stage_at s.board r) ≡ true)
     p = contact_passed r s h
 
-    lt : r < length s.board.fields
-    lt = field_within s k r p.0
-
-release_keeps : (r : ℕ) (s : State) → answer_of Release r s ≡ Accepted → Safe s → Safe (changed Release r s)
+release_keeps : (r : ℕ) (s : State) → answer_of Release r s ≡ accepted → Safe s → Safe (changed Release r s)
 release_keeps r s h k = record {
   ordered = k.ordered;
-  sized = record { points = k.sized.points; levers = k.sized.levers; fields = length-set s.board.fields r x ∙ k.sized.fields; signals = k.sized.signals; lines = k.sized.lines };
+  sized = sized_stage k.sized r x;
   set_out = k.set_out;
   out_apart = k.out_apart;
   set_placed = k.set_placed;
-  held_set = λ q t. ⊎_elim (λ u. absurd (both_ways (is_held x) (released_free (stage_at s.board r)) u.1)) (λ u. k.held_set q u.1) (from_set s.board.fields r q x Open (λ z. is_held z ≡ true) lt t);
-  clear_served = λ g c. let v = k.clear_served g c in (
-    v.0,
-    (
-      v.1.0,
-      v.1.1,
-      by_set s.board.fields r v.0 x Open (λ z. z ≡ Cleared) lt
-          (λ e. absurd (both_ways (is_pulled (arm_at s.board (route_of s.plan r).signal)) p.1 (clear_pulled _ (subst (λ z. is_clear (arm_at s.board z) ≡ true) (sym v.1.1 ∙ ap (λ z. (route_of s.plan z).signal) e) c))))
-          (λ _. v.1.2),
-      v.1.3,
-    ),
-  );
+  held_set = held_stage s k r x p.0 (λ h. absurd (both_ways (is_held x) (released_free (stage_at s.board r)) h));
+  clear_served = λ g c. let v = k.clear_served g c in
+      served_stage s k r x p.0 v (λ e. absurd (both_ways (is_pulled (arm_at s.board (route_of s.plan r).signal)) p.1 (clear_pulled _ (subst (λ z. is_clear (arm_at s.board z) ≡ true) (sym v.1.1 ∙ ap (λ z. (route_of s.plan z).signal) e) c))));
 }
   where
     x : Stage
@@ -354,13 +363,10 @@ release_keeps r s h k = record {
     p : (r < routes s) × (is_pulled (arm_at s.board (route_of s.plan r).signal) ≡ false)
     p = release_passed r s h
 
-    lt : r < length s.board.fields
-    lt = field_within s k r p.0
-
-normal_keeps : (r : ℕ) (s : State) → answer_of Normal r s ≡ Accepted → Safe s → Safe (changed Normal r s)
+normal_keeps : (r : ℕ) (s : State) → answer_of Normal r s ≡ accepted → Safe s → Safe (changed Normal r s)
 normal_keeps r s h k = record {
   ordered = k.ordered;
-  sized = record { points = k.sized.points; levers = length-set s.board.levers (route_of s.plan r).lever lever.Normal ∙ k.sized.levers; fields = k.sized.fields; signals = k.sized.signals; lines = k.sized.lines };
+  sized = sized_lever k.sized (route_of s.plan r).lever lever.Normal;
   set_out = λ q t. k.set_out q (was q t);
   out_apart = k.out_apart;
   set_placed = λ q t. k.set_placed q (was q t);
@@ -391,23 +397,20 @@ normal_keeps r s h k = record {
         (λ e. absurd (both_ways (is_held (stage_at s.board r)) p.2 (subst (λ z. is_held (stage_at s.board z) ≡ true) (one_lever s k q r y p.1 e) t)))
         (λ _. w.1))
 
-return_keeps : (r : ℕ) (s : State) → answer_of Return r s ≡ Accepted → Safe s → Safe (changed Return r s)
+return_keeps : (r : ℕ) (s : State) → answer_of Return r s ≡ accepted → Safe s → Safe (changed Return r s)
 return_keeps r s h k = record {
   ordered = k.ordered;
-  sized = record { points = k.sized.points; levers = k.sized.levers; fields = length-set s.board.fields r Open ∙ k.sized.fields; signals = k.sized.signals; lines = length-set s.block.out r false ∙ k.sized.lines };
+  sized = sized_out (sized_stage k.sized r Open) r false;
   set_out = λ q t. by_set s.block.out r q false false (λ z. z ≡ true) lo (λ e. absurd (both_ways (is_set s.plan s.board r) p.2 (subst (λ z. is_set s.plan s.board z ≡ true) e t))) (λ ne. k.set_out q t);
   out_apart = λ x y w a b. k.out_apart x y w (was x a) (was y b);
   set_placed = k.set_placed;
-  held_set = λ q t. ⊎_elim (λ u. absurd (both_ways false refl u.1)) (λ u. k.held_set q u.1) (from_set s.board.fields r q Open Open (λ z. is_held z ≡ true) lt t);
+  held_set = held_stage s k r Open p.0 (λ h. absurd (both_ways false refl h));
   clear_served = λ g c. let v = k.clear_served g c in
-      (v.0, (v.1.0, v.1.1, by_set s.board.fields r v.0 Open Open (λ z. z ≡ Cleared) lt (λ e. absurd (both_ways (is_set s.plan s.board r) p.2 (subst (λ z. is_set s.plan s.board z ≡ true) e v.1.0))) (λ _. v.1.2), v.1.3));
+      served_stage s k r Open p.0 v (λ e. absurd (both_ways (is_set s.plan s.board r) p.2 (subst (λ z. is_set s.plan s.board z ≡ true) e v.1.0)));
 }
   where
     p : (r < routes s) × (r < s.block.lines) × (is_set s.plan s.board r ≡ false) × (is_out s.block r ≡ true)
     p = return_passed r s h
-
-    lt : r < length s.board.fields
-    lt = field_within s k r p.0
 
     lo : r < length s.block.out
     lo = omega (arith, p.1, k.sized.lines)
@@ -426,7 +429,7 @@ line_keeps b s k = record {
   clear_served = k.clear_served;
 }
 
-pub keeps : (c : Call) (n : ℕ) (s : State) → answer_of c n s ≡ Accepted → Safe s → Safe (changed c n s)
+pub keeps : (c : Call) (n : ℕ) (s : State) → answer_of c n s ≡ accepted → Safe s → Safe (changed c n s)
 keeps Give n s h k = give_keeps n s h k
 keeps Throw n s h k = throw_keeps n s h k
 keeps Trail n s h k = trail_keeps n s h k
@@ -447,8 +450,8 @@ after_keeps : (c : Call) (n : ℕ) (s : State) → Safe s → Safe (after c n s)
 after_keeps c n s k = go (answer_of c n s) refl
   where
     go : (a : Answer) → answer_of c n s ≡ a → Safe (settled a (changed c n s) s)
-    go Accepted e = keeps c n s e k
-    go (Refused f p) e = k
+    go (Ok _) e = keeps c n s e k
+    go (Err _) e = k
 
 pub entry_keeps : (e : Entry) (s : State) → Safe s → Safe (entry_after e s)
 entry_keeps e s k = go (call_of e.letter)

@@ -4,12 +4,10 @@ use Rattle.sheet.specs.Hostility.{hostiles_of}
 use Rattle.sheet.specs.declared.layout.Layout.{Layout}
 use Rattle.block.specs.Meaning.{Meaning, is_out, any_out, with_out, with_whole}
 use Rattle.block.specs.Calls.{give_answer, return_answer, cut_answer, mend_answer}
-use Rattle.board.specs.Answers.{refuse, from_block, settled}
+use Rattle.board.specs.Answers.{Answer, accepted, refuse, from_block, settled}
 use Rattle.board.specs.Boards.{fresh, is_set, lacks_route, with_stage}
 use Rattle.board.specs.Calls.{throw_answer, throw_changed, trail_answer, trail_changed, recouple_answer, recouple_changed, set_answer, set_changed, hold_answer, hold_changed, pull_answer, pull_changed, restore_answer, restore_changed, contact_answer, contact_changed, release_answer, release_changed, normal_answer, normal_changed}
 use Rattle.board.specs.declared.answer.FrameFault.TheVariants.{NoSuchNumber, AlreadyLoaded, TooFewLines, ConsentOut, RouteStillSet}
-use Rattle.board.specs.declared.answer.Answer.{Answer}
-use Rattle.board.specs.declared.answer.Answer.TheVariants.{Accepted}
 use Rattle.board.specs.declared.board.Board.{Board}
 use Rattle.board.specs.declared.board.Stage.TheVariants.{Open}
 use Rattle.frame.specs.declared.call.Call.{Call}
@@ -89,7 +87,7 @@ load_answer l s =
     (cond (l.counts.routes == 0) (refuse NoSuchNumber 0)
     (cond (nat_lt s.block.lines l.counts.routes) (refuse TooFewLines 0)
     (cond (any_out s.block every_route) (refuse ConsentOut 0)
-    Accepted)))
+    accepted)))
 
 -- the plan under a fresh board, over what the block means
 abbrev pub loaded : Layout → Meaning → State

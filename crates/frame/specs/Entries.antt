@@ -1,10 +1,10 @@
 -- Entries of a list: which letter names which call, and what is written into an entry.
-use Rattle.std.specs.Prelude.{ℕ, cond, Some, None, Option, ◌==◌}
-use Rattle.board.specs.Answers.{answer_number, answer_place, refuse}
+use Rattle.std.specs.Prelude.{◌≡◌, ℕ, cond, Some, None, Ok, Err, Option, Result, ◌==◌}
+use Rattle.board.specs.Answers.{Answer, answer_number, answer_place, refuse}
 use Rattle.board.specs.declared.answer.FrameFault.TheVariants.{UnknownCall}
-use Rattle.board.specs.declared.answer.Answer.{Answer}
 use Rattle.frame.specs.declared.call.Call.{Call}
 use Rattle.frame.specs.declared.call.Call.TheVariants.{Give, Throw, Trail, Recouple, Set, Hold, Pull, Restore, Contact, Release, Normal, Return, Cut, Mend}
+use Rattle.frame.specs.declared.call.UnknownLetter.{UnknownLetter}
 use Rattle.frame.specs.declared.entry.Entry.{Entry}
 use Rattle.frame.specs.Calls.{State, answer_of, after}
 
@@ -43,6 +43,14 @@ call_of x =
     (cond (x == letter Cut) (Some Cut)
     (cond (x == letter Mend) (Some Mend)
     None)))))))))))))
+
+-- what a letter is turned into: the call that it names, or itself where it names none
+abbrev pub call_or : ℕ → Option Call → Result Call UnknownLetter
+call_or x (Some c) = Ok c
+call_or x None = Err (record { 0 = x })
+
+abbrev pub Names : ℕ → Result Call UnknownLetter → Type 0
+Names x said = said ≡ call_or x (call_of x)
 
 -- a call that is still to be worked
 abbrev pub unworked : ℕ → ℕ → Entry

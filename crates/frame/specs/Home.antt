@@ -3,8 +3,8 @@ use Rattle.std.specs.Prelude.{◌≡◌, ℕ, ◌<◌, Bool, true, false, cond, 
 use Rattle.sheet.specs.declared.layout.Release.TheVariants.{Train}
 use Rattle.sheet.specs.declared.plan.Plan.{Plan}
 use Rattle.block.specs.Meaning.{Meaning, is_out}
+use Rattle.board.specs.Answers.{accepted}
 use Rattle.board.specs.Boards.{arm_at, is_held, is_pulled, is_run, is_set, route_of, stage_at}
-use Rattle.board.specs.declared.answer.Answer.TheVariants.{Accepted}
 use Rattle.board.specs.declared.board.Stage.TheVariants.{Open}
 use Rattle.frame.specs.declared.call.Call.{Call}
 use Rattle.frame.specs.declared.call.Call.TheVariants.{Restore, Release, Normal, Return}
@@ -17,7 +17,7 @@ use Rattle.frame.specs.Law.{Duty}
 -- every entry is accepted, one after another
 abbrev pub AllAccepted : List Entry → State → Type 0
 AllAccepted [] s = Unit {0}
-AllAccepted (e ∷ es) s = (entry_answer e s ≡ Accepted) × AllAccepted es (entry_after e s)
+AllAccepted (e ∷ es) s = (entry_answer e s ≡ accepted) × AllAccepted es (entry_after e s)
 
 abbrev pub when : Bool → Call → ℕ → List Entry → List Entry
 when b c n es = cond b (unworked (letter c) n ∷ es) es

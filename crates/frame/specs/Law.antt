@@ -1,13 +1,11 @@
 -- The law of a duty: what holds after the loading and after each call, of how all stands and of all that has been worked.
-use Rattle.std.specs.Prelude.{◌≡◌, ℕ, ◌+◌, ◌<◌, ◌≤◌, Bool, true, false, cond, ◌&&◌, ◌||◌, List, [], ◌∷◌, ◌++◌, length, take, fold, ◌==◌}
+use Rattle.std.specs.Prelude.{◌≡◌, ℕ, ◌+◌, ◌<◌, ◌≤◌, Bool, true, false, cond, ◌&&◌, ◌||◌, List, [], ◌∷◌, ◌++◌, length, take, fold, Some, None, Option, ◌==◌}
 use Rattle.sheet.specs.Hostility.{are_hostile}
 use Rattle.sheet.specs.Layouts.{demand_of}
-use Rattle.sheet.specs.declared.layout.Demand.{Demand}
-use Rattle.sheet.specs.declared.layout.Demand.TheVariants as demand
+use Rattle.sheet.specs.declared.layout.Position.{Position}
 use Rattle.sheet.specs.declared.plan.Plan.{Plan}
 use Rattle.block.specs.Meaning.{Meaning, WellFormed, is_out}
 use Rattle.board.specs.Boards.{is_set, is_signalled, arm_at, stage_at, point_at, route_of}
-use Rattle.board.specs.declared.board.Position.TheVariants.{Plus, Minus}
 use Rattle.board.specs.declared.board.Coupling.TheVariants.{Coupled}
 use Rattle.board.specs.declared.board.Point.{Point}
 use Rattle.board.specs.declared.board.Stage.TheVariants.{Cleared}
@@ -59,10 +57,9 @@ abbrev pub OneOfTwo : State → Type 0
 OneOfTwo s = (r q : ℕ) → are_hostile s.plan r q ≡ true → in_use s r ≡ true → in_use s q ≡ false
 
 -- a point is coupled and in the position that is demanded of it
-abbrev pub StandsAs : Demand → Point → Type 0
-StandsAs demand.Nothing x = Unit {0}
-StandsAs demand.Plus x = (x.coupling ≡ Coupled) × (x.position ≡ Plus)
-StandsAs demand.Minus x = (x.coupling ≡ Coupled) × (x.position ≡ Minus)
+abbrev pub StandsAs : Option Position → Point → Type 0
+StandsAs None x = Unit {0}
+StandsAs (Some y) x = (x.coupling ≡ Coupled) × (x.position ≡ y)
 
 -- route r guards signal g
 pub record Guarded (s : State) (past : List Entry) (g r : ℕ) : Type 0 where

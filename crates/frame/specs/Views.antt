@@ -2,8 +2,7 @@
 use Rattle.std.specs.Prelude.{◌≡◌, ℕ, List, []}
 use Rattle.sheet.specs.declared.plan.Plan.{Plan}
 use Rattle.block.specs.Meaning.{Meaning}
-use Rattle.board.specs.declared.answer.Answer.{Answer}
-use Rattle.board.specs.declared.answer.Answer.TheVariants.{Accepted}
+use Rattle.board.specs.Answers.{Answer, accepted}
 use Rattle.frame.specs.declared.call.Call.{Call}
 use Rattle.frame.specs.declared.entry.Entry.{Entry}
 use Rattle.frame.specs.declared.frame.Frame.{Frame}
@@ -26,7 +25,7 @@ Works meaning c n f f' a = Ruled c n (view meaning f) (view meaning f') a
 pub record RuledLoad (p : Plan) (s t : State) (a : Answer) : Type 0 where
   pub answers : a ≡ load_answer p.layout s
   pub leaves : t ≡ load_after p.layout s
-  pub stands : a ≡ Accepted → Stands p s.block [] t
+  pub stands : a ≡ accepted → Stands p s.block [] t
 
 abbrev pub Loads : {B : Type 0} → (B → Meaning) → Plan → Frame B → Frame B → Answer → Type 0
 Loads meaning p f f' a = RuledLoad p (view meaning f) (view meaning f') a
@@ -47,8 +46,8 @@ pub record RuledDuty (p : Plan) (es worked : List Entry) (s t : State) (a : Answ
   pub answers : a ≡ load_answer p.layout s
   pub notes : worked ≡ duty_noted a p.layout s es
   pub leaves : t ≡ duty_after a p.layout s es
-  pub stands : a ≡ Accepted → Stands p s.block worked t
-  pub each : a ≡ Accepted → StandsEach p s.block es worked
+  pub stands : a ≡ accepted → Stands p s.block worked t
+  pub each : a ≡ accepted → StandsEach p s.block es worked
 
 abbrev pub Serves : {B : Type 0} → (B → Meaning) → Plan → List Entry → List Entry → Frame B → Frame B → Answer → Type 0
 Serves meaning p es worked f f' a = RuledDuty p es worked (view meaning f) (view meaning f') a

@@ -1,8 +1,7 @@
 //! The calls of a duty.
-ghost use Rattle.std.specs.Prelude.{◌≡◌};
-ghost use Rattle.frame.specs.Entries.{call_of};
+ghost use Rattle.frame.specs.Entries.{Names};
 
-#[derive(Clone, Copy)]
+#[derive(Clone, Copy, Debug, PartialEq, Eq)]
 pub enum Call {
     Give,
     Throw,
@@ -20,27 +19,33 @@ pub enum Call {
     Mend,
 }
 
-impl Call {
-    /// The call that a letter names in a list.
-    pub fn from_letter(letter: u8) -> Option<Call>
-        ensures { result ≡ call_of letter }
-    {
+/// A letter that names no call.
+#[derive(Clone, Copy, Debug, PartialEq, Eq)]
+pub struct UnknownLetter(pub u8);
+
+/// The call that a letter names in a list.
+impl TryFrom<u8> for Call {
+    type Error = UnknownLetter;
+
+    ghost try_from_gives = { Names };
+
+    fn try_from(letter: u8) -> Result<Call, UnknownLetter> {
         match letter {
-            b'g' => Some(Call::Give),
-            b'p' => Some(Call::Throw),
-            b't' => Some(Call::Trail),
-            b'c' => Some(Call::Recouple),
-            b's' => Some(Call::Set),
-            b'h' => Some(Call::Hold),
-            b'l' => Some(Call::Pull),
-            b'd' => Some(Call::Restore),
-            b'a' => Some(Call::Contact),
-            b'f' => Some(Call::Release),
-            b'n' => Some(Call::Normal),
-            b'b' => Some(Call::Return),
-            b'x' => Some(Call::Cut),
-            b'm' => Some(Call::Mend),
-            _ => None,
+            b'g' => Ok(Call::Give),
+            b'p' => Ok(Call::Throw),
+            b't' => Ok(Call::Trail),
+            b'c' => Ok(Call::Recouple),
+            b's' => Ok(Call::Set),
+            b'h' => Ok(Call::Hold),
+            b'l' => Ok(Call::Pull),
+            b'd' => Ok(Call::Restore),
+            b'a' => Ok(Call::Contact),
+            b'f' => Ok(Call::Release),
+            b'n' => Ok(Call::Normal),
+            b'b' => Ok(Call::Return),
+            b'x' => Ok(Call::Cut),
+            b'm' => Ok(Call::Mend),
+            _ => Err(UnknownLetter(letter)),
         }
     }
 }

@@ -9,9 +9,10 @@ use crate::call::Call;
 use crate::entry::Entry;
 use crate::frame::Frame;
 use block::interface::Block;
-use board::answer::{Answer, Fault, FrameFault};
+use board::answer::{self, Answer, FrameFault};
 use sheet::plan::Plan;
 
+// Apart from `law_stands`, so that a wrong one is refused where it stands.
 fn law_holds() -> u8
     ensures law { Law }
     ensures calls { CallsGoOn }
@@ -33,20 +34,27 @@ pub fn law_stands() -> u8
 }
 
 impl<B: Block> Frame<B> {
+    // Works the call that an entry names, with its number.
+    fn work_named(&mut self, entry: &Entry) -> Answer
+        ensures answer { result ≡ entry_answer entry.now (view B.meaning self.old) }
+        ensures after { view B.meaning self.new ≡ entry_after entry.now (view B.meaning self.old) }
+    {
+        let unknown = FrameFault::UnknownCall.at(entry.number);
+        let call = Call::try_from(entry.letter).map_err(|_| unknown)?;
+        self.work(call, entry.number)
+    }
+
     // Works one entry, and writes its answer and place into it.
     fn work_entry(&mut self, entry: &mut Entry)
         ensures noted { entry.new ≡ noted entry.old (entry_answer entry.old (view B.meaning self.old)) }
         ensures after { view B.meaning self.new ≡ entry_after entry.old (view B.meaning self.old) }
     {
-        let answer = match Call::from_letter(entry.letter) {
-            Some(call) => self.work(call, entry.number),
-            None => Answer::Refused(Fault::Frame(FrameFault::UnknownCall), entry.number),
-        };
-        entry.answer = answer.number();
-        entry.place = answer.place();
+        let said = self.work_named(entry);
+        entry.answer = answer::number(said);
+        entry.place = answer::place(said);
     }
 
-    // Works the entries of a list in their order.
+    // Works the entries of a list in their order. Apart from `run`, so that a wrong `run` is refused where it stands.
     fn work_all(&mut self, entries: &mut [Entry])
         ensures { Runs B.meaning entries.old entries.new self.old self.new }
     {
@@ -62,15 +70,13 @@ impl<B: Block> Frame<B> {
         self.work_all(entries);
     }
 
-    // A loading and, where it is accepted, a list.
+    // A loading and, where it is accepted, a list. Apart from `duty`, so that a wrong `duty` is refused where it stands.
     fn load_and_run(&mut self, plan: Plan, entries: &mut [Entry]) -> Answer
         ensures { Serves B.meaning plan entries.old entries.new self.old self.new result }
     {
-        let answer = self.load(plan);
-        if let Answer::Accepted = answer {
-            self.run(entries);
-        }
-        answer
+        self.load(plan)?;
+        self.run(entries);
+        Ok(())
     }
 
     /// A duty: loads a plan and, where that is accepted, works a list. Where it is refused, all stays as it is.

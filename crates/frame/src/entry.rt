@@ -4,7 +4,8 @@ ghost use Rattle.frame.specs.Entries.{unworked};
 
 use basics::lookup::Numbered;
 
-#[derive(Clone, Copy)]
+// Letter and answer are numbers, since a host lends rows of any bytes and reads them back as numbers.
+#[derive(Clone, Copy, Debug, PartialEq, Eq)]
 pub struct Entry {
     /// Names the call.
     pub letter: u8,

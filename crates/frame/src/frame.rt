@@ -11,7 +11,7 @@ ghost use Rattle.frame.specs.declared.call.Call.TheVariants.{Give, Throw, Trail,
 use crate::call::Call;
 use basics::route_set::RouteSet;
 use block::interface::Block;
-use board::answer::{Answer, Fault, FrameFault};
+use board::answer::{Answer, FrameFault, check, from_block};
 use board::board::{Board, Stage};
 use sheet::plan::Plan;
 
@@ -40,6 +40,7 @@ impl<B: Block> Frame<B> {
     pub fn close(self) -> B
         ensures { result ≡ self.block }
     {
+        // Each field by its name: a frame is not `Drop`, and `..` or `self.block` would let the rest of it go.
         let Frame {
             plan: _,
             board: _,
@@ -53,24 +54,18 @@ impl<B: Block> Frame<B> {
         ensures answer { result ≡ load_answer plan.layout (view B.meaning self.old) }
         ensures after { view B.meaning self.new ≡ load_after plan.layout (view B.meaning self.old) }
     {
-        if self.plan.counts().routes > 0 {
-            return Answer::Refused(Fault::Frame(FrameFault::AlreadyLoaded), 0);
-        }
-        if plan.counts().routes == 0 {
-            return Answer::Refused(Fault::Frame(FrameFault::NoSuchNumber), 0);
-        }
-        if self.block.lines() < plan.counts().routes {
-            return Answer::Refused(Fault::Frame(FrameFault::TooFewLines), 0);
-        }
-        if self.block.any_out(&RouteSet::from([true; 32])) {
-            return Answer::Refused(Fault::Frame(FrameFault::ConsentOut), 0);
-        }
+        let routes = plan.counts().routes;
+        check(self.plan.counts().routes == 0, FrameFault::AlreadyLoaded, 0)?;
+        check(routes > 0, FrameFault::NoSuchNumber, 0)?;
+        check(self.block.lines() >= routes, FrameFault::TooFewLines, 0)?;
+        let all = RouteSet::from([true; 32]);
+        check(!self.block.any_out(&all), FrameFault::ConsentOut, 0)?;
         self.plan = plan;
         self.board = Board::new();
-        Answer::Accepted
+        Ok(())
     }
 
-    // A duty begins with it.
+    // A duty begins with it. Apart from `load`, so that a wrong `load` is refused where it stands.
     fn begin(&mut self, plan: Plan) -> Answer
         ensures { Loads B.meaning plan self.old self.new result }
     {
@@ -88,11 +83,9 @@ impl<B: Block> Frame<B> {
     pub fn give(&mut self, r: usize) -> Answer
         ensures { Works B.meaning Give r self.old self.new result }
     {
-        if r >= self.plan.counts().routes {
-            return Answer::Refused(Fault::Frame(FrameFault::NoSuchNumber), r);
-        }
+        check(r < self.plan.counts().routes, FrameFault::NoSuchNumber, r)?;
         let hostile = self.plan.hostile_set(r);
-        Answer::from_block(self.block.give(r, &hostile), r)
+        from_block(self.block.give(r, &hostile), r)
     }
 
     /// Throws a point to its other position.
@@ -171,34 +164,28 @@ impl<B: Block> Frame<B> {
     pub fn take_back(&mut self, r: usize) -> Answer
         ensures { Works B.meaning Return r self.old self.new result }
     {
-        if r >= self.plan.counts().routes {
-            return Answer::Refused(Fault::Frame(FrameFault::NoSuchNumber), r);
-        }
-        if self.board.is_set(&self.plan, r) {
-            return Answer::Refused(Fault::Frame(FrameFault::RouteStillSet), r);
-        }
-        let said = self.block.take_back(r);
-        if let Ok(()) = said {
-            self.board.fields[r] = Stage::Open;
-        }
-        Answer::from_block(said, r)
+        check(r < self.plan.counts().routes, FrameFault::NoSuchNumber, r)?;
+        check(!self.is_set(r), FrameFault::RouteStillSet, r)?;
+        from_block(self.block.take_back(r), r)?;
+        self.board.fields[r] = Stage::Open;
+        Ok(())
     }
 
     /// The line is cut.
     pub fn cut(&mut self) -> Answer
         ensures { Works B.meaning Cut 0 self.old self.new result }
     {
-        Answer::from_block(self.block.cut(), 0)
+        from_block(self.block.cut(), 0)
     }
 
     /// The line is whole again.
     pub fn mend(&mut self) -> Answer
         ensures { Works B.meaning Mend 0 self.old self.new result }
     {
-        Answer::from_block(self.block.mend(), 0)
+        from_block(self.block.mend(), 0)
     }
 
-    // By its name; a cut and a mend have no number.
+    // By its name; a cut and a mend have no number. A match of every call, so that none can be left out.
     fn dispatch(&mut self, call: Call, n: usize) -> Answer
         ensures { Works B.meaning call n self.old self.new result }
     {
@@ -220,7 +207,7 @@ impl<B: Block> Frame<B> {
         }
     }
 
-    // Every duty goes on by it.
+    // Every duty goes on by it. Apart from `work`, so that a wrong `work` is refused where it stands.
     fn go_on(&mut self, call: Call, n: usize) -> Answer
         ensures works { Works B.meaning call n self.old self.new result }
         ensures law { GoesOn (view B.meaning self.old) (called call n result ∷ []) (view B.meaning self.new) }

@@ -21,44 +21,32 @@ impl<B: Block> Frame<B> {
     pub fn point(&self, p: usize) -> Option<Point>
         ensures { result ≡ point_shown (view B.meaning self.now) p }
     {
-        if p < self.plan.counts().points {
-            Some(self.board.points[p])
-        } else {
-            None
-        }
+        let points = self.plan.counts().points;
+        self.board.points[..points].get(p).copied()
     }
 
     /// How a route lever stands.
     pub fn lever(&self, v: usize) -> Option<Lever>
         ensures { result ≡ lever_shown (view B.meaning self.now) v }
     {
-        if v < self.plan.counts().levers {
-            Some(self.board.levers[v])
-        } else {
-            None
-        }
+        let levers = self.plan.counts().levers;
+        self.board.levers[..levers].get(v).copied()
     }
 
     /// How far a route's field has come.
     pub fn field(&self, r: usize) -> Option<Stage>
         ensures { result ≡ field_shown (view B.meaning self.now) r }
     {
-        if r < self.plan.counts().routes {
-            Some(self.board.fields[r])
-        } else {
-            None
-        }
+        let routes = self.plan.counts().routes;
+        self.board.fields[..routes].get(r).copied()
     }
 
     /// How a signal lever and its arm stand.
     pub fn arm(&self, g: usize) -> Option<Arm>
         ensures { result ≡ arm_shown (view B.meaning self.now) g }
     {
-        if g < self.plan.counts().signals {
-            Some(self.board.signals[g])
-        } else {
-            None
-        }
+        let signals = self.plan.counts().signals;
+        self.board.signals[..signals].get(g).copied()
     }
 
     /// Whether a route is set.
@@ -72,10 +60,11 @@ impl<B: Block> Frame<B> {
     pub fn is_signalled(&self, r: usize) -> bool
         ensures { result ≡ is_signalled self.now.plan.layout self.now.board r }
     {
-        match self.plan.route(r) {
-            Some(route) => self.is_set(r) & self.board.signals[route.signal].is_clear(),
-            None => false,
-        }
+        self.is_set(r)
+            && self
+                .plan
+                .route(r)
+                .is_some_and(|route| self.board.signals[route.signal].is_clear())
     }
 
     /// Whether a route's consent is out.

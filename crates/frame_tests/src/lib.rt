@@ -7,7 +7,7 @@ mod tests {
     use block::interface::Block;
     use block::key_cabinet::KeyCabinet;
     use block::wire_pair::WirePair;
-    use board::answer::Answer;
+    use board::answer::{self, Answer};
     use board::board::{Arm, Coupling, Lever, Stage};
     use frame::call::Call;
     use frame::entry::Entry;
@@ -48,25 +48,21 @@ mod tests {
     ];
 
     fn worked_plan() -> Result<Plan, Fail> {
-        match read(&worked_sheet()) {
-            Ok(plan) => Ok(plan),
-            Err(_) => Err(Fail::new("the worked sheet is refused")),
-        }
+        read(&worked_sheet()).map_err(|_| Fail::new("the worked sheet is refused"))
     }
 
     fn told(answer: Answer) -> (u8, usize) {
-        (answer.number(), answer.place())
+        (answer::number(answer), answer::place(answer))
     }
 
     // What the rows are answered, one call after the other.
     fn by_calls<B: Block>(frame: &mut Frame<B>) -> [(u8, usize); 21] {
         let mut said = [(0, 0); 21];
-        for (i, row) in WORKED.iter().enumerate() {
-            if let Some(call) = Call::from_letter(row.0) {
-                said[i] = told(frame.work(call, row.1));
-            } else {
-                said[i] = (10, row.1);
-            }
+        for (answer, row) in said.iter_mut().zip(WORKED.iter()) {
+            *answer = match Call::try_from(row.0) {
+                Ok(call) => told(frame.work(call, row.1)),
+                Err(_) => (10, row.1),
+            };
         }
         said
     }
@@ -117,10 +113,12 @@ mod tests {
     fn shown<B: Block>(frame: &Frame<B>) -> [bool; 9] {
         [
             frame.is_loaded(),
-            matches!(frame.point(0), Some(point) if matches!(point.coupling, Coupling::Coupled)),
-            matches!(frame.lever(0), Some(Lever::Up)),
-            matches!(frame.field(0), Some(Stage::Cleared)),
-            matches!(frame.arm(0), Some(Arm::Clear)),
+            frame
+                .point(0)
+                .is_some_and(|point| point.coupling == Coupling::Coupled),
+            frame.lever(0) == Some(Lever::Up),
+            frame.field(0) == Some(Stage::Cleared),
+            frame.arm(0) == Some(Arm::Clear),
             frame.is_set(0),
             frame.is_signalled(0),
             frame.is_out(0),

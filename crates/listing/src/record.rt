@@ -8,7 +8,7 @@ use crate::calls::note_calls;
 use crate::lines::entry_lines;
 use basics::book::{Book, BookFault};
 use block::wire_pair::WirePair;
-use board::answer::Answer;
+use board::answer::Refusal;
 use frame::entry::Entry;
 use frame::frame::Frame;
 use sheet::plan::Plan;
@@ -96,8 +96,8 @@ fn sheet_listing(heap: Global, sheet: &[u8], calls: &[u8]) -> Result<String, All
     match read(sheet) {
         Ok(plan) => accepted_lines(heap, plan, calls),
         Err(fault) => {
-            let answer = Answer::from_sheet(fault);
-            refused_line(heap, answer.number(), answer.place())
+            let refusal = Refusal::from(fault);
+            refused_line(heap, refusal.fault.number(), refusal.place)
         }
     }
 }

@@ -1,17 +1,19 @@
 -- Each part of a sheet that was read is the bits that its value is written with.
-use Rattle.std.proofs.Common.{◌≡◌, ℕ, zero, suc, ◌+◌, ◌-◌, ◌*◌, ◌^◌, ◌<◌, ◌≤◌, Bool, false, cond, ◌&&◌, eqb, ltb, leb, ◌≢◌, List, ◌++◌, length, get_or, set, replicate, sym, refl, ap, ◌∙◌, subst, arith}
+use Rattle.std.proofs.Common.{◌≡◌, ℕ, zero, suc, ◌+◌, ◌-◌, ◌*◌, ◌^◌, ◌<◌, ◌≤◌, Bool, false, cond, ◌&&◌, eqb, ltb, leb, ◌≢◌, List, ◌++◌, length, get_or, set, replicate, Some, None, Option, sym, refl, ap, ◌∙◌, subst, arith}
+use Rattle.std.proofs.Math.Nat.{sub-zero}
 use Rattle.std.proofs.lemmas.Bool.{and_parts, leb-true, eqb-true}
 use Rattle.std.proofs.lemmas.List.{length-set, get_or-set_same, get_or-set_other}
 use Rattle.sheet.specs.Bits.{Read, done, fault, next, field_at}
-use Rattle.sheet.specs.Fields.{edition_at, count_at, counts_at, number_at, demand_at, flag_at, side_at, release_at, fill, demands_at, named_at, route_at}
-use Rattle.sheet.specs.Encode.{bits_of, side_code, release_code, demand_code, each, counts_bits, demand_bits, named_bits, route_bits}
+use Rattle.sheet.specs.Fields.{edition_at, count_at, counts_at, number_at, meant, coded_at, demand_at, flag_at, side_at, release_at, fill, demands_at, named_at, route_at}
+use Rattle.sheet.specs.Codes.{Agree, side_code, release_code, demand_code, flag_code, side_agree, release_agree, demand_agree, flag_agree}
+use Rattle.sheet.specs.Encode.{bits_of, each, counts_bits, demand_bits, named_bits, route_bits}
 use Rattle.sheet.specs.declared.fault.Flaw.TheVariants.{WrongEdition, CountOutside, NumberTooHigh, BadPointCode}
 use Rattle.sheet.specs.declared.layout.Side.{Side}
 use Rattle.sheet.specs.declared.layout.Side.TheVariants.{Up, Down}
 use Rattle.sheet.specs.declared.layout.Release.{Release}
 use Rattle.sheet.specs.declared.layout.Release.TheVariants.{Station, Train}
-use Rattle.sheet.specs.declared.layout.Demand.{Demand}
-use Rattle.sheet.specs.declared.layout.Demand.TheVariants.{Nothing, Plus, Minus}
+use Rattle.sheet.specs.declared.layout.Position.{Position}
+use Rattle.sheet.specs.declared.layout.Position.TheVariants.{Plus, Minus}
 use Rattle.sheet.specs.declared.layout.Counts.{Counts}
 use Rattle.sheet.specs.declared.layout.Route.{Route}
 use Rattle.sheet.proofs.Took.{Took, took_none, took_append, went, kept, field_took, done_parts}
@@ -48,58 +50,18 @@ number_took s i k m n ds j h =
     let ej : w.place ≡ j = cc in
     took_at (field_took s i k w.value w.sheet w.place w.first).0 ed ej (ap (bits_of k) ev)
 
--- the code of what a code stands for
-side_code_lem : (c : ℕ) → c < 2 → c ≡ side_code (cond (eqb c 0) Up Down)
-side_code_lem zero h = refl
-side_code_lem (suc zero) h = refl
-side_code_lem (suc (suc c)) h = absurd (omega arith)
+-- a field that is a code
+meant_parts : {A : Type 0} (x : Option A) (s : List ℕ) (i j : ℕ) (a : A) (ds : List ℕ) (k : ℕ) → meant x s i j ≡ done a ds k → (x ≡ Some a) × (s ≡ ds) × (j ≡ k)
+meant_parts (Some b) s i j a ds k h = let e = done_parts h in (ap Some e.0, e.1, e.2)
+meant_parts None s i j a ds k h = let z : ◌≡◌ {A = ℕ} 0 1 = cc in absurd (omega arith)
 
-release_code_lem : (c : ℕ) → c < 2 → c ≡ release_code (cond (eqb c 0) Station Train)
-release_code_lem zero h = refl
-release_code_lem (suc zero) h = refl
-release_code_lem (suc (suc c)) h = absurd (omega arith)
-
-flag_code_lem : (c : ℕ) → c < 2 → c ≡ cond (eqb c 1) 1 0
-flag_code_lem zero h = refl
-flag_code_lem (suc zero) h = refl
-flag_code_lem (suc (suc c)) h = absurd (omega arith)
-
--- a field that stands for something
-coded_took : {A : Type 0} (f : ℕ → A) (g : A → ℕ) (s : List ℕ) (i k : ℕ) → ((c : ℕ) → c < 2 ^ k → c ≡ g (f c)) → (a : A) (ds : List ℕ) (j : ℕ)
-    → next (field_at s i k) (λ c bs i. done (f c) bs i) ≡ done a ds j → Took s ds i j (bits_of k (g a))
-coded_took f g s i k q a ds j h =
-    let w = went (field_at s i k) (λ c bs i. done (f c) bs i) a ds j h in
-    let r = w.rest in
-    let t = field_took s i k w.value w.sheet w.place w.first in
-    let ev : f w.value ≡ a = cc in
-    let ed : w.sheet ≡ ds = cc in
-    let ej : w.place ≡ j = cc in
-    took_at t.0 ed ej (ap (bits_of k) (q w.value t.1 ∙ ap g ev))
-
-side_took : (s : List ℕ) (i : ℕ) (a : Side) (ds : List ℕ) (j : ℕ) → side_at s i ≡ done a ds j → Took s ds i j (bits_of 1 (side_code a))
-side_took s i a ds j h = coded_took (λ c. cond (eqb c 0) Up Down) side_code s i 1 side_code_lem a ds j h
-
-release_took : (s : List ℕ) (i : ℕ) (a : Release) (ds : List ℕ) (j : ℕ) → release_at s i ≡ done a ds j → Took s ds i j (bits_of 1 (release_code a))
-release_took s i a ds j h = coded_took (λ c. cond (eqb c 0) Station Train) release_code s i 1 release_code_lem a ds j h
-
-flag_took : (s : List ℕ) (i : ℕ) (a : Bool) (ds : List ℕ) (j : ℕ) → flag_at s i ≡ done a ds j → Took s ds i j (bits_of 1 (cond a 1 0))
-flag_took s i a ds j h = coded_took (λ c. eqb c 1) (λ a. cond a 1 0) s i 1 flag_code_lem a ds j h
-
-demand_code_lem : (c : ℕ) (i : ℕ) (es : List ℕ) (k : ℕ) (a : Demand) (ds : List ℕ) (j : ℕ) → c < 4
-    → cond (eqb c 0) (done Nothing es k) (cond (eqb c 1) (done Plus es k) (cond (eqb c 2) (done Minus es k) (fault BadPointCode i))) ≡ done a ds j
-    → (c ≡ demand_code a) × (es ≡ ds) × (k ≡ j)
-demand_code_lem zero i es k a ds j h e = let f : Nothing ≡ a = cc in (ap demand_code f, (cc), (cc))
-demand_code_lem (suc zero) i es k a ds j h e = let f : Plus ≡ a = cc in (ap demand_code f, (cc), (cc))
-demand_code_lem (suc (suc zero)) i es k a ds j h e = let f : Minus ≡ a = cc in (ap demand_code f, (cc), (cc))
-demand_code_lem (suc (suc (suc zero))) i es k a ds j h e = let z : ◌≡◌ {A = ℕ} 0 1 = cc in absurd (omega arith)
-demand_code_lem (suc (suc (suc (suc c)))) i es k a ds j h e = absurd (omega arith)
-
-demand_took : (s : List ℕ) (i : ℕ) (a : Demand) (ds : List ℕ) (j : ℕ) → demand_at s i ≡ done a ds j → Took s ds i j (bits_of 2 (demand_code a))
-demand_took s i a ds j h =
-    let w = went (field_at s i 2) (λ c ds j. cond (eqb c 0) (done Nothing ds j) (cond (eqb c 1) (done Plus ds j) (cond (eqb c 2) (done Minus ds j) (fault BadPointCode i)))) a ds j h in
-    let t = field_took s i 2 w.value w.sheet w.place w.first in
-    let q = demand_code_lem w.value i w.sheet w.place a ds j t.1 w.rest in
-    took_at t.0 q.1 q.2 (ap (bits_of 2) q.0)
+module _ {A : Type 0} {k : ℕ} {code : A → ℕ} {value : ℕ → Option A} (agree : Agree k code value) where
+  pub coded_took : (s : List ℕ) (i : ℕ) (a : A) (ds : List ℕ) (j : ℕ) → coded_at k value s i ≡ done a ds j → Took s ds i j (bits_of k (code a))
+  coded_took s i a ds j h =
+      let w = went (field_at s i k) (λ c s j. meant (value c) s i j) a ds j h in
+      let t = field_took s i k w.value w.sheet w.place w.first in
+      let m = meant_parts (value w.value) w.sheet i w.place a ds j w.rest in
+      took_at t.0 m.1 m.2 (ap (bits_of k) (agree.only w.value a t.1 m.0))
 
 -- a row: its bits are those of its places, and the places before are as they were
 module _ {A : Type 0} (one : ℕ → List ℕ → ℕ → Read A) (f : ℕ → A → List ℕ) (d : A) (top : ℕ)
@@ -120,15 +82,16 @@ module _ {A : Type 0} (one : ℕ → List ℕ → ℕ → Read A) (f : ℕ → A
       let u : Took s w.sheet i w.place (f k (get_or row' k d)) = subst (λ v. Took s w.sheet i w.place (f k v)) (sym here) t in
       (took_append u r.0, λ t b. let ne : t ≢ k = omega arith in r.1 t (omega arith) ∙ get_or-set_other row k t a d ne)
 
-pub demands_took : (p : ℕ) (s : List ℕ) (i : ℕ) (row : List Demand) (ds : List ℕ) (j : ℕ) → p ≤ 32 → demands_at p s i ≡ done row ds j
+pub demands_took : (p : ℕ) (s : List ℕ) (i : ℕ) (row : List (Option Position)) (ds : List ℕ) (j : ℕ) → p ≤ 32 → demands_at p s i ≡ done row ds j
     → Took s ds i j (each (demand_bits row) p 0)
 demands_took p s i row ds j l h =
-    (fill_took (λ k. demand_at) (λ k a. bits_of 2 (demand_code a)) Nothing 32 (λ k s i a ds j b. demand_took s i a ds j) s i p 0 (replicate 32 Nothing) row ds j (omega arith) (omega arith) h).0
+    let t = (fill_took (λ k. demand_at) (λ k a. bits_of 2 (demand_code a)) None 32 (λ k s i a ds j b. coded_took demand_agree s i a ds j) s i (p - 0) 0 (replicate 32 None) row ds j (omega arith) (omega arith) h).0 in
+    rw sub-zero at t
 
 pub named_took : (n r : ℕ) (s : List ℕ) (i : ℕ) (row : List Bool) (ds : List ℕ) (j : ℕ) → n ≤ 32 → r < n → named_at n r s i ≡ done row ds j
     → Took s ds i j (each (named_bits row) (n - (r + 1)) (r + 1))
 named_took n r s i row ds j l b h =
-    (fill_took (λ k. flag_at) (λ k a. bits_of 1 (cond a 1 0)) false 32 (λ k s i a ds j b. flag_took s i a ds j) s i (n - (r + 1)) (r + 1) (replicate 32 false) row ds j (omega arith) (omega arith) h).0
+    (fill_took (λ k. flag_at) (λ k a. bits_of 1 (flag_code a)) false 32 (λ k s i a ds j b. coded_took flag_agree s i a ds j) s i (n - (r + 1)) (r + 1) (replicate 32 false) row ds j (omega arith) (omega arith) h).0
 
 pub counts_took : (s : List ℕ) (i : ℕ) (x : Counts) (ds : List ℕ) (j : ℕ) → counts_at s i ≡ done x ds j → Took s ds i j (counts_bits x) × (x.points ≤ 32) × (x.routes ≤ 32)
 counts_took s i x ds j h =
@@ -171,10 +134,10 @@ stage_end x mk s i E sel K first made b es k h =
     (took_at t p.1 p.2 (ap E (sym (made w.value).0 ∙ ap sel p.0)), subst K p.0 (made w.value).1)
 
 module _ (h : Counts) (r : ℕ) (lp : h.points ≤ 32) (ln : h.routes ≤ 32) (lr : r < h.routes) where
-  abbrev whole_of : ℕ → Side → ℕ → Release → List Demand → List Bool → Route
+  abbrev whole_of : ℕ → Side → ℕ → Release → List (Option Position) → List Bool → Route
   whole_of a b c d e f = record { lever = a; side = b; signal = c; release = d; demands = e; named = f }
 
-  abbrev step6 : ℕ → Side → ℕ → Release → List Demand → List ℕ → ℕ → Read Route
+  abbrev step6 : ℕ → Side → ℕ → Release → List (Option Position) → List ℕ → ℕ → Read Route
   step6 a b c d e s i = next (named_at h.routes r s i) (λ f s i. done (whole_of a b c d e f) s i)
 
   abbrev step5 : ℕ → Side → ℕ → Release → List ℕ → ℕ → Read Route
@@ -204,7 +167,7 @@ module _ (h : Counts) (r : ℕ) (lp : h.points ≤ 32) (ln : h.routes ≤ 32) (l
   abbrev bits2 : Route → List ℕ
   bits2 x = bits_of 1 (side_code x.side) ++ bits3 x
 
-  took6 : (a : ℕ) (b : Side) (c : ℕ) (d : Release) (e : List Demand) (s : List ℕ) (i : ℕ) (x : Route) (ds : List ℕ) (j : ℕ) → step6 a b c d e s i ≡ done x ds j
+  took6 : (a : ℕ) (b : Side) (c : ℕ) (d : Release) (e : List (Option Position)) (s : List ℕ) (i : ℕ) (x : Route) (ds : List ℕ) (j : ℕ) → step6 a b c d e s i ≡ done x ds j
       → Took s ds i j (bits6 x) × ((x.demands ≡ e) × ((x.release ≡ d) × ((x.signal ≡ c) × ((x.side ≡ b) × ((x.lever ≡ a) × Unit {0})))))
   took6 a b c d e s i x ds j q =
       stage_end (named_at h.routes r s i) (whole_of a b c d e) s i (λ row. each (named_bits row) (h.routes - (r + 1)) (r + 1)) (λ x. x.named)
@@ -225,7 +188,7 @@ module _ (h : Counts) (r : ℕ) (lp : h.points ≤ 32) (ln : h.routes ≤ 32) (l
   took4 a b c s i x ds j q =
       stage (release_at s i) (step5 a b c) s i (λ d. bits_of 1 (release_code d)) (λ x. x.release) bits5
       (λ x. (x.signal ≡ c) × ((x.side ≡ b) × ((x.lever ≡ a) × Unit {0})))
-      (release_took s i) (took5 a b c) x ds j q
+      (coded_took release_agree s i) (took5 a b c) x ds j q
 
   took3 : (a : ℕ) (b : Side) (s : List ℕ) (i : ℕ) (x : Route) (ds : List ℕ) (j : ℕ) → step3 a b s i ≡ done x ds j
       → Took s ds i j (bits3 x) × ((x.side ≡ b) × ((x.lever ≡ a) × Unit {0}))
@@ -239,7 +202,7 @@ module _ (h : Counts) (r : ℕ) (lp : h.points ≤ 32) (ln : h.routes ≤ 32) (l
   took2 a s i x ds j q =
       stage (side_at s i) (step3 a) s i (λ b. bits_of 1 (side_code b)) (λ x. x.side) bits3
       (λ x. (x.lever ≡ a) × Unit {0})
-      (side_took s i) (took3 a) x ds j q
+      (coded_took side_agree s i) (took3 a) x ds j q
 
   pub route_took : (s : List ℕ) (i : ℕ) (x : Route) (ds : List ℕ) (j : ℕ) → route_at h r s i ≡ done x ds j → Took s ds i j (route_bits h x r)
   route_took s i x ds j q =

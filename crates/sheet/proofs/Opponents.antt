@@ -1,10 +1,10 @@
 -- Hostility, from its tests, and that it is the same both ways.
-use Rattle.std.proofs.Common.{◌≡◌, ℕ, zero, suc, ◌<◌, Bool, true, false, not, ◌&&◌, ◌||◌, eqb, ltb, sym, refl, ◌∙◌, ⊎_elim}
+use Rattle.std.proofs.Common.{◌≡◌, ℕ, zero, suc, ◌<◌, Bool, true, false, not, ◌&&◌, ◌||◌, eqb, ltb, Some, None, Option, sym, refl, ◌∙◌, ⊎_elim}
 use Rattle.std.proofs.lemmas.Bool.{eq-eqb, ne_eqb, lt-ltb, le-ltb, cases_eq, cases_lt, and_left, and_right}
 use Rattle.sheet.specs.Layouts.{route_in, demand_of}
 use Rattle.sheet.specs.Hostility.{opposed, clashing, named_at_route, opponents, are_hostile}
-use Rattle.sheet.specs.declared.layout.Demand.{Demand}
-use Rattle.sheet.specs.declared.layout.Demand.TheVariants.{Nothing, Plus, Minus}
+use Rattle.sheet.specs.declared.layout.Position.{Position}
+use Rattle.sheet.specs.declared.layout.Position.TheVariants.{Plus, Minus}
 use Rattle.sheet.specs.declared.layout.Route.{Route}
 use Rattle.sheet.specs.declared.layout.Layout.{Layout}
 
@@ -23,16 +23,16 @@ and_sym true false = refl
 and_sym false true = refl
 and_sym false false = refl
 
-opposed_sym : (a b : Demand) → opposed a b ≡ opposed b a
-opposed_sym Nothing Nothing = refl
-opposed_sym Nothing Plus = refl
-opposed_sym Nothing Minus = refl
-opposed_sym Plus Nothing = refl
-opposed_sym Plus Plus = refl
-opposed_sym Plus Minus = refl
-opposed_sym Minus Nothing = refl
-opposed_sym Minus Plus = refl
-opposed_sym Minus Minus = refl
+opposed_sym : (a b : Option Position) → opposed a b ≡ opposed b a
+opposed_sym None None = refl
+opposed_sym None (Some Plus) = refl
+opposed_sym None (Some Minus) = refl
+opposed_sym (Some Plus) None = refl
+opposed_sym (Some Plus) (Some Plus) = refl
+opposed_sym (Some Plus) (Some Minus) = refl
+opposed_sym (Some Minus) None = refl
+opposed_sym (Some Minus) (Some Plus) = refl
+opposed_sym (Some Minus) (Some Minus) = refl
 
 clashing_sym : (a b : Route) (n : ℕ) → clashing a b n ≡ clashing b a n
 clashing_sym a b zero = refl

@@ -1,11 +1,11 @@
 -- The sheet of a plan: its length, and that writing its bits gives its bytes.
-use Rattle.std.proofs.Common.{◌≡◌, ℕ, zero, suc, ◌+◌, ◌-◌, ◌*◌, ◌/◌, ◌≤◌, false, List, [], ◌++◌, length, get_or, drop, replicate, sym, refl, ap, ◌∙◌, subst, mul_assoc, suc-mul, mul-le-mul, mul-suc, arith}
+use Rattle.std.proofs.Common.{◌≡◌, ℕ, zero, suc, ◌+◌, ◌-◌, ◌*◌, ◌/◌, ◌≤◌, false, List, [], ◌++◌, length, get_or, drop, replicate, None, sym, refl, ap, ◌∙◌, subst, mul_assoc, suc-mul, mul-le-mul, mul-suc, arith}
 use Rattle.std.proofs.lemmas.List.{length-append, length-replicate}
-use Rattle.sheet.specs.Encode.{bits_of, side_code, release_code, demand_code, flag_code, each, head_bits, demand_bits, named_bits, route_bits, routes_bits, encode, size_of, filled, sheet_of}
+use Rattle.sheet.specs.Codes.{side_code, release_code, demand_code, flag_code}
+use Rattle.sheet.specs.Encode.{bits_of, each, head_bits, demand_bits, named_bits, route_bits, routes_bits, encode, size_of, filled, sheet_of}
 use Rattle.sheet.specs.Layouts.{route_in}
 use Rattle.sheet.specs.Valid.{Few}
 use Rattle.sheet.specs.Writing.{put, Wrote}
-use Rattle.sheet.specs.declared.layout.Demand.TheVariants.{Nothing}
 use Rattle.sheet.specs.declared.layout.Counts.{Counts}
 use Rattle.sheet.specs.declared.layout.Route.{Route}
 use Rattle.sheet.specs.declared.layout.Layout.{Layout}
@@ -34,7 +34,7 @@ binary_route c x r =
     (binary_append (bits_of 1 (side_code x.side)) g (binary_bits 1 (side_code x.side))
     (binary_append (bits_of 5 x.signal) d (binary_bits 5 x.signal)
     (binary_append (bits_of 1 (release_code x.release)) e (binary_bits 1 (release_code x.release))
-    (binary_append (each (demand_bits x.demands) c.points 0) f (binary_each (demand_bits x.demands) c.points 0 (λ j. binary_bits 2 (demand_code (get_or x.demands j Nothing))))
+    (binary_append (each (demand_bits x.demands) c.points 0) f (binary_each (demand_bits x.demands) c.points 0 (λ j. binary_bits 2 (demand_code (get_or x.demands j None))))
     (binary_each (named_bits x.named) (c.routes - (r + 1)) (r + 1) (λ j. binary_bits 1 (flag_code (get_or x.named j false))))))))
 
 binary_head : (c : Counts) → Binary (head_bits c)

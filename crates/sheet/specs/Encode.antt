@@ -1,12 +1,8 @@
 -- The sheet of a plan: the layout the other way round.
-use Rattle.std.specs.Prelude.{ℕ, zero, suc, ◌+◌, ◌-◌, ◌*◌, ◌/◌, ◌%◌, ◌^◌, Bool, false, cond, List, [], ◌∷◌, ◌++◌, length, replicate, slice_index_or}
+use Rattle.std.specs.Prelude.{ℕ, zero, suc, ◌+◌, ◌-◌, ◌*◌, ◌/◌, ◌%◌, ◌^◌, Bool, false, cond, List, [], ◌∷◌, ◌++◌, length, replicate, Some, None, Option, slice_index_or}
+use Rattle.sheet.specs.Codes.{side_code, release_code, demand_code, flag_code}
 use Rattle.sheet.specs.Layouts.{route_in}
-use Rattle.sheet.specs.declared.layout.Side.{Side}
-use Rattle.sheet.specs.declared.layout.Side.TheVariants.{Up, Down}
-use Rattle.sheet.specs.declared.layout.Release.{Release}
-use Rattle.sheet.specs.declared.layout.Release.TheVariants.{Station, Train}
-use Rattle.sheet.specs.declared.layout.Demand.{Demand}
-use Rattle.sheet.specs.declared.layout.Demand.TheVariants.{Nothing, Plus, Minus}
+use Rattle.sheet.specs.declared.layout.Position.{Position}
 use Rattle.sheet.specs.declared.layout.Route.{Route}
 use Rattle.sheet.specs.declared.layout.Counts.{Counts}
 use Rattle.sheet.specs.declared.layout.Layout.{Layout}
@@ -15,22 +11,6 @@ use Rattle.sheet.specs.declared.layout.Layout.{Layout}
 abbrev pub bits_of : ℕ → ℕ → List ℕ
 bits_of zero v = []
 bits_of (suc k) v = v / 2 ^ k % 2 ∷ bits_of k v
-
-abbrev pub side_code : Side → ℕ
-side_code Up = 0
-side_code Down = 1
-
-abbrev pub release_code : Release → ℕ
-release_code Station = 0
-release_code Train = 1
-
-abbrev pub demand_code : Demand → ℕ
-demand_code Nothing = 0
-demand_code Plus = 1
-demand_code Minus = 2
-
-abbrev pub flag_code : Bool → ℕ
-flag_code b = cond b 1 0
 
 -- the bits of m items from item k on
 abbrev pub each : (ℕ → List ℕ) → ℕ → ℕ → List ℕ
@@ -44,8 +24,8 @@ counts_bits c = bits_of 6 c.points ++ (bits_of 6 c.signals ++ (bits_of 5 c.lever
 abbrev pub head_bits : Counts → List ℕ
 head_bits c = bits_of 4 1 ++ counts_bits c
 
-abbrev pub demand_bits : List Demand → ℕ → List ℕ
-demand_bits row p = bits_of 2 (demand_code (slice_index_or row p Nothing))
+abbrev pub demand_bits : List (Option Position) → ℕ → List ℕ
+demand_bits row p = bits_of 2 (demand_code (slice_index_or row p None))
 
 abbrev pub named_bits : List Bool → ℕ → List ℕ
 named_bits row q = bits_of 1 (flag_code (slice_index_or row q false))

@@ -1,14 +1,12 @@
 -- The fields of a sheet, each at bit i: first whether it is whole, then whether its value is one that it may have.
-use Rattle.std.specs.Prelude.{ℕ, zero, suc, ◌+◌, ◌-◌, ◌*◌, ◌/◌, Bool, false, cond, ◌&&◌, List, length, replicate, ◌==◌, nat_le, nat_lt, slice_set}
+use Rattle.std.specs.Prelude.{ℕ, zero, suc, ◌+◌, ◌-◌, ◌*◌, ◌/◌, Bool, false, cond, ◌&&◌, List, length, replicate, Some, None, Option, ◌==◌, nat_le, nat_lt, slice_set}
 use Rattle.sheet.specs.Bits.{Read, done, fault, next, bit_of, field_at}
+use Rattle.sheet.specs.Codes.{side_of, release_of, demanded_by, flag_of}
 use Rattle.sheet.specs.Layouts.{no_route}
 use Rattle.sheet.specs.declared.fault.Flaw.TheVariants.{WrongEdition, CountOutside, NumberTooHigh, BadPointCode, BadFilling}
 use Rattle.sheet.specs.declared.layout.Side.{Side}
-use Rattle.sheet.specs.declared.layout.Side.TheVariants.{Up, Down}
 use Rattle.sheet.specs.declared.layout.Release.{Release}
-use Rattle.sheet.specs.declared.layout.Release.TheVariants.{Station, Train}
-use Rattle.sheet.specs.declared.layout.Demand.{Demand}
-use Rattle.sheet.specs.declared.layout.Demand.TheVariants.{Nothing, Plus, Minus}
+use Rattle.sheet.specs.declared.layout.Position.{Position}
 use Rattle.sheet.specs.declared.layout.Route.{Route}
 use Rattle.sheet.specs.declared.layout.Counts.{Counts}
 use Rattle.sheet.specs.declared.layout.Layout.{Layout}
@@ -24,18 +22,26 @@ count_at s i k least most = next (field_at s i k) (λ n s j. cond (nat_le least 
 abbrev pub number_at : List ℕ → ℕ → ℕ → ℕ → Read ℕ
 number_at s i k limit = next (field_at s i k) (λ n s j. cond (nat_lt n limit) (done n s j) (fault NumberTooHigh i))
 
+-- what a code stands for; one that stands for nothing is a fault where the code begins
+abbrev pub meant : {A : Type 0} → Option A → List ℕ → ℕ → ℕ → Read A
+meant (Some a) s i j = done a s j
+meant None s i j = fault BadPointCode i
+
+-- a field of k bits that is a code
+abbrev pub coded_at : {A : Type 0} → ℕ → (ℕ → Option A) → List ℕ → ℕ → Read A
+coded_at k value s i = next (field_at s i k) (λ c s j. meant (value c) s i j)
+
 abbrev pub side_at : List ℕ → ℕ → Read Side
-side_at s i = next (field_at s i 1) (λ c s i. done (cond (c == 0) Up Down) s i)
+side_at = coded_at 1 side_of
 
 abbrev pub release_at : List ℕ → ℕ → Read Release
-release_at s i = next (field_at s i 1) (λ c s i. done (cond (c == 0) Station Train) s i)
+release_at = coded_at 1 release_of
 
-abbrev pub demand_at : List ℕ → ℕ → Read Demand
-demand_at s i = next (field_at s i 2) (λ c s j.
-    cond (c == 0) (done Nothing s j) (cond (c == 1) (done Plus s j) (cond (c == 2) (done Minus s j) (fault BadPointCode i))))
+abbrev pub demand_at : List ℕ → ℕ → Read (Option Position)
+demand_at = coded_at 2 demanded_by
 
 abbrev pub flag_at : List ℕ → ℕ → Read Bool
-flag_at s i = next (field_at s i 1) (λ c s i. done (c == 1) s i)
+flag_at = coded_at 1 flag_of
 
 -- m items, one after the other, into the places of a row from place k on
 abbrev pub fill : {A : Type 0} → (ℕ → List ℕ → ℕ → Read A) → List ℕ → ℕ → ℕ → ℕ → List A → Read (List A)
@@ -51,13 +57,17 @@ counts_at s i =
     next (count_at s i 6 1 32) (λ n s i.
     done (record { points = p; signals = g; levers = v; routes = n }) s i))))
 
+-- a row with a code of w bits at each place from k up to n, and a blank at the others
+abbrev pub row_at : {A : Type 0} → ℕ → (ℕ → Option A) → A → ℕ → ℕ → List ℕ → ℕ → Read (List A)
+row_at w value blank k n s i = fill (λ _. coded_at w value) s i (n - k) k (replicate 32 blank)
+
 -- a demand of each of p points
-abbrev pub demands_at : ℕ → List ℕ → ℕ → Read (List Demand)
-demands_at p s i = fill (λ k. demand_at) s i p 0 (replicate 32 Nothing)
+abbrev pub demands_at : ℕ → List ℕ → ℕ → Read (List (Option Position))
+demands_at p = row_at 2 demanded_by None 0 p
 
 -- for each of n routes that is higher than r, whether the pair is named hostile
 abbrev pub named_at : ℕ → ℕ → List ℕ → ℕ → Read (List Bool)
-named_at n r s i = fill (λ k. flag_at) s i (n - (r + 1)) (r + 1) (replicate 32 false)
+named_at n r = row_at 1 flag_of false (r + 1) n
 
 -- route r
 abbrev pub route_at : Counts → ℕ → List ℕ → ℕ → Read Route

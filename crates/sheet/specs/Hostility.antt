@@ -1,22 +1,22 @@
 -- Which routes are hostile.
-use Rattle.std.specs.Prelude.{ℕ, Bool, true, false, not, ◌&&◌, ◌||◌, List, map, ◌==◌, nat_lt, slice_index_or}
+use Rattle.std.specs.Prelude.{ℕ, Bool, true, false, not, ◌&&◌, ◌||◌, List, map, Some, None, Option, ◌==◌, nat_lt, slice_index_or}
 use Rattle.std.specs.List.{range_with_len}
 use Rattle.basics.specs.Scan.{any}
 use Rattle.sheet.specs.Layouts.{route_in, demand_of}
-use Rattle.sheet.specs.declared.layout.Demand.{Demand}
-use Rattle.sheet.specs.declared.layout.Demand.TheVariants.{Nothing, Plus, Minus}
+use Rattle.sheet.specs.declared.layout.Position.{Position}
+use Rattle.sheet.specs.declared.layout.Position.TheVariants.{Plus, Minus}
 use Rattle.sheet.specs.declared.layout.Route.{Route}
 use Rattle.sheet.specs.declared.layout.Layout.{Layout}
 
 -- one plus and the other minus
-abbrev pub opposed : Demand → Demand → Bool
-opposed Nothing d = false
-opposed Plus Nothing = false
-opposed Plus Plus = false
-opposed Plus Minus = true
-opposed Minus Nothing = false
-opposed Minus Plus = true
-opposed Minus Minus = false
+abbrev pub opposed : Option Position → Option Position → Bool
+opposed None d = false
+opposed (Some Plus) None = false
+opposed (Some Plus) (Some Plus) = false
+opposed (Some Plus) (Some Minus) = true
+opposed (Some Minus) None = false
+opposed (Some Minus) (Some Plus) = true
+opposed (Some Minus) (Some Minus) = false
 
 -- some point below n is demanded plus by one and minus by the other
 abbrev pub clashing : Route → Route → ℕ → Bool

@@ -1,10 +1,10 @@
 //! The bit reader: fields that follow one another without gaps, most significant bit first.
 ghost use Rattle.std.specs.Prelude.{◌≡◌, ◌+◌, ◌<◌, ◌≤◌, IfOk};
 ghost use Rattle.sheet.specs.Bits.{bit_of, field_at, told};
-ghost use Rattle.sheet.specs.Fields.{count_at, demand_at, edition_at, filling_at, flag_at, number_at, release_at, side_at};
+ghost use Rattle.sheet.specs.Fields.{coded_at, count_at, edition_at, filling_at, number_at};
 
+use crate::coded::Coded;
 use crate::fault::{Flaw, SheetFault};
-use crate::layout::{Demand, Release, Side};
 
 /// A sheet's bytes, and the bit at which the next field begins.
 #[derive(Drop)]
@@ -59,7 +59,7 @@ impl<'a> BitReader<'a> {
         ensures near { self.new.at ≤ self.old.at + 4 }
     {
         let place = self.at;
-        if take!(self.field(4)) != 1 {
+        if self.field(4)? != 1 {
             return Err(SheetFault {
                 flaw: Flaw::WrongEdition,
                 place,
@@ -80,7 +80,7 @@ impl<'a> BitReader<'a> {
         ensures near { self.new.at ≤ self.old.at + width }
     {
         let place = self.at;
-        let n = take!(self.field(width));
+        let n = self.field(width)?;
         if n < least || n > most {
             return Err(SheetFault {
                 flaw: Flaw::CountOutside,
@@ -98,7 +98,7 @@ impl<'a> BitReader<'a> {
         ensures near { self.new.at ≤ self.old.at + width }
     {
         let place = self.at;
-        let n = take!(self.field(width));
+        let n = self.field(width)?;
         if n >= limit {
             return Err(SheetFault {
                 flaw: Flaw::NumberTooHigh,
@@ -108,52 +108,18 @@ impl<'a> BitReader<'a> {
         Ok(n)
     }
 
-    pub(crate) fn side(&mut self) -> Result<Side, SheetFault>
+    // A field that is a code; only a point's may stand for nothing.
+    pub(crate) fn coded<T: Coded>(&mut self) -> Result<T, SheetFault>
         requires { self.old.at ≤ 4000 }
-        ensures value { told result self.new.bytes.now self.new.at ≡ side_at self.old.bytes.now self.old.at }
-        ensures near { self.new.at ≤ self.old.at + 1 }
-    {
-        let code = take!(self.field(1));
-        Ok(if code == 0 { Side::Up } else { Side::Down })
-    }
-
-    pub(crate) fn release(&mut self) -> Result<Release, SheetFault>
-        requires { self.old.at ≤ 4000 }
-        ensures value { told result self.new.bytes.now self.new.at ≡ release_at self.old.bytes.now self.old.at }
-        ensures near { self.new.at ≤ self.old.at + 1 }
-    {
-        let code = take!(self.field(1));
-        Ok(if code == 0 {
-            Release::Station
-        } else {
-            Release::Train
-        })
-    }
-
-    pub(crate) fn demand(&mut self) -> Result<Demand, SheetFault>
-        requires { self.old.at ≤ 4000 }
-        ensures value { told result self.new.bytes.now self.new.at ≡ demand_at self.old.bytes.now self.old.at }
-        ensures near { self.new.at ≤ self.old.at + 2 }
+        ensures value { told result self.new.bytes.now self.new.at ≡ coded_at T.WIDTH T.value_of self.old.bytes.now self.old.at }
+        ensures near { self.new.at ≤ self.old.at + T.WIDTH }
     {
         let place = self.at;
-        match take!(self.field(2)) {
-            0 => Ok(Demand::Nothing),
-            1 => Ok(Demand::Plus),
-            2 => Ok(Demand::Minus),
-            _ => Err(SheetFault {
-                flaw: Flaw::BadPointCode,
-                place,
-            }),
-        }
-    }
-
-    pub(crate) fn flag(&mut self) -> Result<bool, SheetFault>
-        requires { self.old.at ≤ 4000 }
-        ensures value { told result self.new.bytes.now self.new.at ≡ flag_at self.old.bytes.now self.old.at }
-        ensures near { self.new.at ≤ self.old.at + 1 }
-    {
-        let code = take!(self.field(1));
-        Ok(code == 1)
+        let code = self.field(T::WIDTH)?;
+        T::from_code(code).ok_or(SheetFault {
+            flaw: Flaw::BadPointCode,
+            place,
+        })
     }
 
     // Zeros up to a whole byte, and no byte after them.

@@ -4,31 +4,31 @@ ghost use Rattle.sheet.specs.Faults.{number_of};
 
 use basics::lookup::Numbered;
 
-/// What is wrong with a sheet, or keeps one from being written.
-#[derive(Clone, Copy)]
+/// What is wrong with a sheet, or keeps one from being written, each under its number.
+#[derive(Clone, Copy, Debug, PartialEq, Eq)]
 pub enum Flaw {
     /// The sheet ends inside a field.
-    EndsInside,
+    EndsInside = 1,
     /// The edition is not one that is read.
-    WrongEdition,
+    WrongEdition = 2,
     /// A count lies outside its limits.
-    CountOutside,
+    CountOutside = 3,
     /// A route's lever or signal is one that the plan has not.
-    NumberTooHigh,
+    NumberTooHigh = 4,
     /// A point's code is none of nothing, plus and minus.
-    BadPointCode,
+    BadPointCode = 5,
     /// A filling bit is set, or a byte follows the sheet.
-    BadFilling,
+    BadFilling = 6,
     /// Two routes stand on one lever and side.
-    SharedLever,
+    SharedLever = 7,
     /// A lever has no route.
-    IdleLever,
+    IdleLever = 8,
     /// A signal has no route.
-    IdleSignal,
+    IdleSignal = 9,
     /// A blank plan has no sheet.
-    BlankPlan,
+    BlankPlan = 11,
     /// The buffer is too short for the sheet.
-    NoRoom,
+    NoRoom = 37,
 }
 
 impl Flaw {
@@ -36,24 +36,12 @@ impl Flaw {
     pub fn number(self) -> u8
         ensures { result ≡ number_of self }
     {
-        match self {
-            Flaw::EndsInside => 1,
-            Flaw::WrongEdition => 2,
-            Flaw::CountOutside => 3,
-            Flaw::NumberTooHigh => 4,
-            Flaw::BadPointCode => 5,
-            Flaw::BadFilling => 6,
-            Flaw::SharedLever => 7,
-            Flaw::IdleLever => 8,
-            Flaw::IdleSignal => 9,
-            Flaw::BlankPlan => 11,
-            Flaw::NoRoom => 37,
-        }
+        self as u8
     }
 }
 
 /// A sheet's fault: what is wrong, and at which bit, route, lever or signal; at place 0 where a writing is refused.
-#[derive(Clone, Copy)]
+#[derive(Clone, Copy, Debug, PartialEq, Eq)]
 pub struct SheetFault {
     pub flaw: Flaw,
     pub place: usize,

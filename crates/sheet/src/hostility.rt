@@ -2,17 +2,14 @@
 ghost use Rattle.std.specs.Prelude.{◌≡◌, ◌<◌, ◌≤◌, false};
 ghost use Rattle.sheet.specs.Hostility.{are_hostile, clashing, hostiles_of, opponents, opposed};
 
-use crate::layout::{Demand, Layout, Route};
+use crate::layout::{Layout, Position, Route};
 use crate::plan::Plan;
 use basics::route_set::RouteSet;
 
-fn are_opposed(a: Demand, b: Demand) -> bool
+fn are_opposed(a: Option<Position>, b: Option<Position>) -> bool
     ensures { result ≡ opposed a b }
 {
-    match (a, b) {
-        (Demand::Plus, Demand::Minus) | (Demand::Minus, Demand::Plus) => true,
-        _ => false,
-    }
+    a.is_some() && b.is_some() && a != b
 }
 
 // Whether two routes demand one of the first points in both positions.

@@ -1,35 +1,34 @@
-//! What a plan says: how many there are of each thing, and what each route asks.
+//! What a plan says: how many there are of each thing, and what each route asks. An enum's numbers are its codes in a sheet.
 
 /// Which way a route lever is thrown.
-#[derive(Clone, Copy)]
+#[derive(Clone, Copy, Debug, PartialEq, Eq)]
 pub enum Side {
-    Up,
-    Down,
+    Up = 0,
+    Down = 1,
 }
 
 /// Who frees a route that is held: the station, or the train that has run.
-#[derive(Clone, Copy)]
+#[derive(Clone, Copy, Debug, PartialEq, Eq)]
 pub enum Release {
-    Station,
-    Train,
+    Station = 0,
+    Train = 1,
 }
 
-/// What a route demands of a point.
-#[derive(Clone, Copy)]
-pub enum Demand {
-    Nothing,
-    Plus,
-    Minus,
+/// The two positions of a point.
+#[derive(Clone, Copy, Debug, PartialEq, Eq)]
+pub enum Position {
+    Plus = 1,
+    Minus = 2,
 }
 
-#[derive(Clone, Copy)]
+#[derive(Clone, Copy, Debug, PartialEq, Eq)]
 pub struct Route {
     pub lever: usize,
     pub side: Side,
     pub signal: usize,
     pub release: Release,
-    /// By point.
-    pub demands: [Demand; 32],
+    /// By point: the position that is demanded of it, if any is.
+    pub demands: [Option<Position>; 32],
     /// By route: whether the sheet names the pair hostile, at the lower of the two.
     pub named: [bool; 32],
 }
@@ -40,11 +39,11 @@ pub(crate) const NO_ROUTE: Route = Route {
     side: Side::Up,
     signal: 0,
     release: Release::Station,
-    demands: [Demand::Nothing; 32],
+    demands: [None; 32],
     named: [false; 32],
 };
 
-#[derive(Clone, Copy)]
+#[derive(Clone, Copy, Debug, PartialEq, Eq)]
 pub struct Counts {
     pub points: usize,
     pub signals: usize,
@@ -52,7 +51,7 @@ pub struct Counts {
     pub routes: usize,
 }
 
-#[derive(Clone, Copy)]
+#[derive(Clone, Copy, Debug, PartialEq, Eq)]
 pub struct Layout {
     pub counts: Counts,
     pub routes: [Route; 32],

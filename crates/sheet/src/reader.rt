@@ -1,17 +1,19 @@
 //! From a sheet's bytes to its plan.
-ghost use Rattle.std.specs.Prelude.{◌≡◌, ◌+◌, ◌<◌, ◌≤◌, IfOk};
+ghost use Rattle.std.specs.Prelude.{◌≡◌, ◌+◌, ◌-◌, ◌*◌, ◌<◌, ◌≤◌, IfOk};
 ghost use Rattle.sheet.specs.Bits.{told};
 ghost use Rattle.sheet.specs.Decode.{decode, drawn};
 ghost use Rattle.sheet.specs.Encode.{sheet_of};
-ghost use Rattle.sheet.specs.Fields.{counts_at, demands_at, layout_at, named_at, route_at, routes_at};
+ghost use Rattle.sheet.specs.Fields.{counts_at, layout_at, route_at, routes_at, row_at};
 ghost use Rattle.sheet.specs.Plans.{answered};
 ghost use Rattle.sheet.specs.Valid.{Few, Valid, Within, WithinTo};
 
 use crate::bits::BitReader;
+use crate::coded::Coded;
 use crate::fault::SheetFault;
-use crate::layout::{Counts, Demand, Layout, NO_ROUTE, Route};
+use crate::layout::{Counts, Layout, NO_ROUTE, Route};
 use crate::plan::Plan;
 use crate::rules::judge;
+use std::ops::Range;
 
 fn counts(bits: &mut BitReader) -> Result<Counts, SheetFault>
     requires { bits.old.at ≤ 4 }
@@ -19,10 +21,10 @@ fn counts(bits: &mut BitReader) -> Result<Counts, SheetFault>
     ensures within { IfOk result (λ c. Few c × (0 < c.routes)) }
     ensures near { bits.new.at ≤ bits.old.at + 23 }
 {
-    let points = take!(bits.count(6, 0, 32));
-    let signals = take!(bits.count(6, 1, 32));
-    let levers = take!(bits.count(5, 1, 16));
-    let routes = take!(bits.count(6, 1, 32));
+    let points = bits.count(6, 0, 32)?;
+    let signals = bits.count(6, 1, 32)?;
+    let levers = bits.count(5, 1, 16)?;
+    let routes = bits.count(6, 1, 32)?;
     Ok(Counts {
         points,
         signals,
@@ -31,27 +33,21 @@ fn counts(bits: &mut BitReader) -> Result<Counts, SheetFault>
     })
 }
 
-fn demands(bits: &mut BitReader, points: usize) -> Result<[Demand; 32], SheetFault>
-    requires { (bits.old.at ≤ 3900) × (points ≤ 32) }
-    ensures value { told result bits.new.bytes.now bits.new.at ≡ demands_at points bits.old.bytes.now bits.old.at }
-    ensures near { bits.new.at ≤ bits.old.at + 64 }
+// A row with a code at each of some places, and a blank at the others.
+fn row<T: Coded>(
+    bits: &mut BitReader,
+    blank: T,
+    places: Range<usize>,
+) -> Result<[T; 32], SheetFault>
+    requires near { bits.old.at ≤ 3900 }
+    requires places { (places.start ≤ places.end) × (places.end ≤ 32) }
+    ensures value { told result bits.new.bytes.now bits.new.at ≡ row_at T.WIDTH T.value_of blank places.start places.end bits.old.bytes.now bits.old.at }
+    ensures near { bits.new.at ≤ bits.old.at + T.WIDTH * (places.end - places.start) }
 {
-    let mut row = [Demand::Nothing; 32];
-    for k in 0..points {
-        row[k] = take!(bits.demand());
-    }
-    Ok(row)
-}
-
-// For each route above route `r`, whether the pair is named hostile.
-fn named(bits: &mut BitReader, routes: usize, r: usize) -> Result<[bool; 32], SheetFault>
-    requires { (bits.old.at ≤ 3900) × ((routes ≤ 32) × (r < routes)) }
-    ensures value { told result bits.new.bytes.now bits.new.at ≡ named_at routes r bits.old.bytes.now bits.old.at }
-    ensures near { bits.new.at ≤ bits.old.at + 32 }
-{
-    let mut row = [false; 32];
-    for k in r + 1..routes {
-        row[k] = take!(bits.flag());
+    let mut row = [blank; 32];
+    // By number: a loop over `&mut row[places]` is not covered by the checker yet.
+    for k in places.start..places.end {
+        row[k] = bits.coded()?;
     }
     Ok(row)
 }
@@ -62,12 +58,12 @@ fn route(bits: &mut BitReader, counts: Counts, r: usize) -> Result<Route, SheetF
     ensures within { IfOk result (λ y. (y.lever < counts.levers) × (y.signal < counts.signals)) }
     ensures near { bits.new.at ≤ bits.old.at + 107 }
 {
-    let lever = take!(bits.number(4, counts.levers));
-    let side = take!(bits.side());
-    let signal = take!(bits.number(5, counts.signals));
-    let release = take!(bits.release());
-    let demands = take!(demands(bits, counts.points));
-    let named = take!(named(bits, counts.routes, r));
+    let lever = bits.number(4, counts.levers)?;
+    let side = bits.coded()?;
+    let signal = bits.number(5, counts.signals)?;
+    let release = bits.coded()?;
+    let demands = row(bits, None, 0..counts.points)?;
+    let named = row(bits, false, r + 1..counts.routes)?;
     Ok(Route {
         lever,
         side,
@@ -86,7 +82,7 @@ fn routes(bits: &mut BitReader, counts: Counts) -> Result<[Route; 32], SheetFaul
 {
     let mut rows = [NO_ROUTE; 32];
     for k in 0..counts.routes {
-        rows[k] = take!(route(bits, counts, k));
+        rows[k] = route(bits, counts, k)?;
     }
     Ok(rows)
 }
@@ -96,10 +92,10 @@ pub(crate) fn layout(bits: &mut BitReader) -> Result<Layout, SheetFault>
     ensures value { told result bits.new.bytes.now bits.new.at ≡ layout_at bits.old.bytes.now bits.old.at }
     ensures within { IfOk result (λ l. Few l.counts × (0 < l.counts.routes) × Within l) }
 {
-    take!(bits.edition());
-    let counts = take!(counts(bits));
-    let routes = take!(routes(bits, counts));
-    take!(bits.filling());
+    bits.edition()?;
+    let counts = counts(bits)?;
+    let routes = routes(bits, counts)?;
+    bits.filling()?;
     Ok(Layout { counts, routes })
 }
 
@@ -110,8 +106,8 @@ fn valid_layout(sheet: &[u8]) -> Result<Layout, SheetFault>
     ensures again { IfOk result (λ l. sheet_of l ≡ sheet.now) }
 {
     let mut bits = BitReader::new(sheet);
-    let layout = take!(layout(&mut bits));
-    take!(judge(&layout));
+    let layout = layout(&mut bits)?;
+    judge(&layout)?;
     Ok(layout)
 }
 
@@ -121,8 +117,6 @@ pub fn read(sheet: &[u8]) -> Result<Plan, SheetFault>
     ensures again { IfOk result (λ p. sheet_of p.layout ≡ sheet.now) }
     ensures kept { sheet.exit.now ≡ sheet.entry.now }
 {
-    match valid_layout(sheet) {
-        Ok(layout) => Ok(Plan { layout }),
-        Err(fault) => Err(fault),
-    }
+    let layout = valid_layout(sheet)?;
+    Ok(Plan { layout })
 }

@@ -1,13 +1,14 @@
 //! From a plan to the bytes of its sheet.
 ghost use Rattle.std.specs.Prelude.{◌≡◌, ◌+◌, ◌-◌, ◌*◌, ◌/◌, ◌<◌, ◌≤◌, length, take, replicate, IfOk};
 ghost use Rattle.sheet.specs.Decode.{accepted, decode};
-ghost use Rattle.sheet.specs.Encode.{demand_bits, demand_code, each, encode, filled, flag_code, head_bits, named_bits, release_code, route_bits, routes_bits, sheet_of, side_code, size_of};
+ghost use Rattle.sheet.specs.Codes.{demand_code, flag_code, release_code, side_code};
+ghost use Rattle.sheet.specs.Encode.{demand_bits, each, encode, filled, head_bits, named_bits, route_bits, routes_bits, sheet_of, size_of};
 ghost use Rattle.sheet.specs.Valid.{Few, Sound};
 ghost use Rattle.sheet.specs.Writing.{Wrote, writing, written};
 
 use crate::bit_writer::BitWriter;
 use crate::fault::{Flaw, SheetFault};
-use crate::layout::{Counts, Demand, Layout, Release, Route, Side};
+use crate::layout::{Counts, Layout, Position, Release, Route, Side};
 use crate::plan::Plan;
 
 fn side_code(side: Side) -> usize
@@ -28,13 +29,13 @@ fn release_code(release: Release) -> usize
     }
 }
 
-fn demand_code(demand: Demand) -> usize
+fn demand_code(demand: Option<Position>) -> usize
     ensures { result ≡ demand_code demand }
 {
     match demand {
-        Demand::Nothing => 0,
-        Demand::Plus => 1,
-        Demand::Minus => 2,
+        None => 0,
+        Some(Position::Plus) => 1,
+        Some(Position::Minus) => 2,
     }
 }
 
@@ -56,7 +57,7 @@ fn put_head(w: &mut BitWriter, counts: Counts)
     w.put(6, counts.routes);
 }
 
-fn put_demands(w: &mut BitWriter, points: usize, row: &[Demand; 32])
+fn put_demands(w: &mut BitWriter, points: usize, row: &[Option<Position>; 32])
     requires { (w.old.at + length (each (demand_bits row.now) points 0) ≤ 8 * length w.old.out.now) × ((w.old.at + length (each (demand_bits row.now) points 0) ≤ 4000) × (points ≤ 32)) }
     ensures wrote { Wrote w.old.out.now w.old.at w.new.out.now w.new.at (each (demand_bits row.now) points 0) }
     ensures same { w.new.out.ghost_name ≡ w.old.out.ghost_name }

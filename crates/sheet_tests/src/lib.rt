@@ -5,7 +5,7 @@ mod books;
 
 #[cfg(test)]
 mod tests {
-    use sheet::layout::{Demand, Release, Side};
+    use sheet::layout::{Position, Release, Side};
     use sheet::plan::Plan;
     use sheet::reader::read;
     use sheet::worked::worked_sheet;
@@ -200,7 +200,7 @@ mod tests {
         assert!(rt;
             matches!(
                 (last.side, last.release, last.demands[0]),
-                (Side::Up, Release::Train, Demand::Plus)
+                (Side::Up, Release::Train, Some(Position::Plus))
             )
         );
         assert!(rt; plan.route(3).is_none());

@@ -1,5 +1,5 @@
 -- The worked duty on the worked sheet, what else is answered there, and states that are reached: computed from the rules.
-use Rattle.std.specs.Prelude.{Bool, true, false, List, [], ◌∷◌, ◌++◌, map, ◌≡◌, ℕ, take, replicate}
+use Rattle.std.specs.Prelude.{Bool, true, false, List, [], ◌∷◌, ◌++◌, map, ◌≡◌, ℕ, take, replicate, Some, None}
 use Rattle.sheet.specs.Decode.{accepted, decode}
 use Rattle.sheet.specs.Layouts.{no_route}
 use Rattle.sheet.specs.Worked.{Answer, answers, answer_of, copies, worked_sheet}
@@ -7,8 +7,8 @@ use Rattle.sheet.specs.declared.layout.Side.{Side}
 use Rattle.sheet.specs.declared.layout.Side.TheVariants.{Up, Down}
 use Rattle.sheet.specs.declared.layout.Release.{Release as ReleasedBy}
 use Rattle.sheet.specs.declared.layout.Release.TheVariants.{Station, Train}
-use Rattle.sheet.specs.declared.layout.Demand.{Demand}
-use Rattle.sheet.specs.declared.layout.Demand.TheVariants.{Nothing, Plus, Minus}
+use Rattle.sheet.specs.declared.layout.Position.{Position}
+use Rattle.sheet.specs.declared.layout.Position.TheVariants.{Plus, Minus}
 use Rattle.sheet.specs.declared.layout.Route.{Route}
 use Rattle.sheet.specs.declared.layout.Layout.{Layout}
 use Rattle.block.specs.Meaning.{fresh_block}
@@ -26,8 +26,8 @@ use Rattle.frame.specs.Runs.{run_after, run_noted}
 
 -- one point; routes 0 and 1 on the two sides of lever 0 and on signal 0, plus and minus; route 2 on lever 1 and signal 1, plus
 -- and train-worked
-abbrev pub worked_route : ℕ → Side → ℕ → ReleasedBy → Demand → Route
-worked_route v x g f d = record { lever = v; side = x; signal = g; release = f; demands = d ∷ replicate 31 Nothing; named = replicate 32 false }
+abbrev pub worked_route : ℕ → Side → ℕ → ReleasedBy → Position → Route
+worked_route v x g f d = record { lever = v; side = x; signal = g; release = f; demands = Some d ∷ replicate 31 None; named = replicate 32 false }
 
 abbrev pub worked_plan : Layout
 worked_plan = record {

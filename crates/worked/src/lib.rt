@@ -6,41 +6,30 @@ ghost use Rattle.worked.specs.Worked.{ExamplesStand, worked_duty};
 
 use frame::entry::Entry;
 
-macro_rules! call {
-    ($letter:expr, $number:expr) => {
-        Entry {
-            letter: $letter,
-            number: $number,
-            answer: 0,
-            place: 0,
-        }
-    };
-}
-
 fn calls() -> [Entry; 19]
     ensures calls { result ≡ worked_duty }
     ensures examples { ExamplesStand }
 {
     [
-        call!(b's', 0),
-        call!(b'g', 0),
-        call!(b'g', 1),
-        call!(b's', 0),
-        call!(b'p', 0),
-        call!(b'l', 0),
-        call!(b'h', 0),
-        call!(b'l', 0),
-        call!(b't', 0),
-        call!(b'd', 0),
-        call!(b'l', 0),
-        call!(b'c', 0),
-        call!(b'l', 0),
-        call!(b'a', 0),
-        call!(b'f', 0),
-        call!(b'd', 0),
-        call!(b'f', 0),
-        call!(b'n', 0),
-        call!(b'b', 0),
+        Entry::new(b's', 0),
+        Entry::new(b'g', 0),
+        Entry::new(b'g', 1),
+        Entry::new(b's', 0),
+        Entry::new(b'p', 0),
+        Entry::new(b'l', 0),
+        Entry::new(b'h', 0),
+        Entry::new(b'l', 0),
+        Entry::new(b't', 0),
+        Entry::new(b'd', 0),
+        Entry::new(b'l', 0),
+        Entry::new(b'c', 0),
+        Entry::new(b'l', 0),
+        Entry::new(b'a', 0),
+        Entry::new(b'f', 0),
+        Entry::new(b'd', 0),
+        Entry::new(b'f', 0),
+        Entry::new(b'n', 0),
+        Entry::new(b'b', 0),
     ]
 }
 

@@ -1,6 +1,5 @@
-use mathlib.Core.Path.{refl}
 use Rattle.worked.proofs.Examples.{examples_stand}
 use Rattle.worked.proofs.calls.Goals as goal
 
-pub returns : goal.returns
-returns c = record { calls = refl; examples = examples_stand }
+pub returns-clause-examples : goal.returns-clause-examples
+returns-clause-examples c = examples_stand

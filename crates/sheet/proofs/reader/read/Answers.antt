@@ -2,7 +2,7 @@ use Rattle.sheet.proofs.reader.read.Goals as goal
 
 pub invariant_of-result : goal.invariant_of-result
 invariant_of-result c =
-    let v = c.in-Ok.ensures.valid in
+    let v = c.in_ok-layout.ensures.valid in
     record {
       few = v.few;
       bare = v.bare;
