@@ -1,4 +1,4 @@
-use Rattle.std.proofs.Common.{◌≡◌, suc, ◌+◌, ◌-◌, ◌*◌, ◌/◌, [], ◌∷◌, ◌∙◌, arith}
+use Rattle.std.proofs.Common.{◌≡◌, suc, ◌+◌, ◌-◌, ◌*◌, ◌/◌, [], ◌∷◌, arith}
 use Rattle.sheet.proofs.Puts.{going_more}
 use Rattle.sheet.proofs.writer.put_filling.Goals as goal
 
@@ -6,4 +6,4 @@ pub loop-k-preserved : goal.loop-k-preserved
 loop-k-preserved c =
     let end = (c.args.w.now.at + 7) / 8 * 8 in
     let s : end - c.loop-k._k ≡ suc (end - (c.loop-k._k + 1)) = omega arith in
-    (going_more {xs = 0 ∷ []} (rw s at c.loop-k.invariant.0) c.push.ensures.wrote, omega arith, c.push.ensures.same ∙ c.loop-k.invariant.2)
+    record { going = going_more {xs = 0 ∷ []} (rw s at c.loop-k.invariant.going) c.push.ensures; here = omega arith }
