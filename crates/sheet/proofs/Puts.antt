@@ -1,5 +1,6 @@
 -- Bits that are written one after the other.
-use Rattle.std.proofs.Common.{◌≡◌, ℕ, zero, suc, ◌+◌, ◌-◌, ◌*◌, ◌/◌, ◌%◌, ◌^◌, ◌<◌, ◌≤◌, List, [], ◌∷◌, ◌++◌, length, get_or, set, take, drop, sym, refl, ap, ◌∙◌, add-zero, suc-mul, arith}
+use Rattle.std.proofs.Common.{◌≡◌, ℕ, zero, suc, ◌+◌, ◌-◌, ◌*◌, ◌/◌, ◌%◌, ◌^◌, ◌<◌, ◌≤◌, List, [], ◌∷◌, ◌++◌, length, get_or, set, take, drop, replicate, sym, refl, ap, ◌∙◌, add-zero, suc-mul, arith}
+use native.Mathlib.Nat.{zero-div}
 use Rattle.std.proofs.lemmas.List.{length-append, drop_more, at_drop_more}
 use Rattle.sheet.specs.Encode.{bits_of, codes_bits, each, demand_bits, named_bits, route_bits}
 use Rattle.sheet.specs.Writing.{put, HasRoom, Wrote}
@@ -11,6 +12,11 @@ use Rattle.sheet.specs.declared.layout.Route.{Route}
 pub bits_more : (k v : ℕ) → 0 < k → bits_of k v ≡ (v / 2 ^ (k - 1) % 2 ∷ []) ++ bits_of (k - 1) v
 bits_more zero v h = absurd (omega arith)
 bits_more (suc j) v h = let e : suc j - 1 ≡ j = omega arith in rw e
+
+-- the bits of zero
+pub bits_zero : (k : ℕ) → bits_of k 0 ≡ replicate k 0
+bits_zero zero = refl
+bits_zero (suc k) = rw (zero-div, bits_zero k)
 
 pub put-append : (out : List ℕ) (n : ℕ) (xs ys : List ℕ) → put out n (xs ++ ys) ≡ put (put out n xs) (n + length xs) ys
 put-append out n [] ys = rw add-zero

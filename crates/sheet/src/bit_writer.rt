@@ -13,7 +13,7 @@ pub(crate) struct BitWriter<'a> {
 }
 
 impl BitWriter<'_> {
-    pub(crate) fn push(&mut self, bit: u8)
+    fn push(&mut self, bit: u8)
         requires bit { bit < 2 }
         requires room { HasRoom self.old 1 }
         ensures { Wrote self.old self.new (bit ∷ []) }
@@ -29,6 +29,7 @@ impl BitWriter<'_> {
         requires room { HasRoom self.old width }
         ensures { Wrote self.old self.new (bits_of width value) }
     {
+        // Over the places of the bits in the value, from the top.
         for k in (0..width).rev() {
             self.push(((value >> k) % 2) as u8);
         }

@@ -54,9 +54,7 @@ fn put_filling(w: &mut BitWriter)
     ensures { Wrote w.old w.new (replicate ((w.old.at + 7) / 8 * 8 - w.old.at) 0) }
 {
     let end = (w.at + 7) / 8 * 8;
-    for _k in w.at..end {
-        w.push(0);
-    }
+    w.put(end - w.at, 0);
 }
 
 fn put_sheet(w: &mut BitWriter, layout: &Layout)
