@@ -9,4 +9,5 @@ pub mod Sheets
 pub mod Took
 pub mod Fits
 pub mod Round
+pub mod Breaking
 pub mod Breaches
