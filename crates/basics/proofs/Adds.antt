@@ -1,8 +1,10 @@
 -- Entries into a book, one after the other.
-use Rattle.std.proofs.Common.{◌≡◌, ℕ, suc, ◌+◌, ◌-◌, true, false, ltb, List, [], ◌∷◌, ◌++◌, length, take, drop, set, sym, ◌∙◌, ⊎_elim, arith}
+use Rattle.std.proofs.Common.{◌≡◌, ℕ, suc, ◌+◌, ◌-◌, true, false, ltb, List, [], ◌∷◌, ◌++◌, length, take, drop, set, sym, refl, subst, ◌∙◌, ⊎_elim, arith}
 use Rattle.std.proofs.lemmas.List.{append_assoc, take_all, take-append-drop, take_more_set, drop-set-lt, drop_all, length-set}
 use Rattle.std.proofs.lemmas.Bool.{cases_lt, lt-ltb, le-ltb}
 use Rattle.basics.specs.Books.{rows_with, count_with, rows_after, count_after}
+use Rattle.basics.specs.Adding.{Added}
+use Rattle.basics.specs.declared.book.Book.{Book}
 
 module _ {X : Type 0} where
   take_none : (m : ℕ) → take {A = X} m [] ≡ []
@@ -82,3 +84,21 @@ module _ {X : Type 0} where
 
   pub count_then : (xs : List X) (n : ℕ) (ys zs xs' : List X) (n' n'' : ℕ) → xs' ≡ rows_after xs n ys → n' ≡ count_after xs n ys → n'' ≡ count_after xs' n' zs → n'' ≡ count_after xs n (ys ++ zs)
   count_then xs n ys zs xs' n' n'' a b c = let j = count_joined xs n ys zs in cc
+
+  -- no entry, what `add` ensures, and some entries and then others
+  pub added_none : (a : Book X) → Added a a []
+  added_none a = record { written = sym (rows_none a.rows.now a.count); filled = sym (count_none a.rows.now a.count); lender = refl }
+
+  pub added_one : (a b : Book X) (y : X) → b.rows.now ≡ rows_with a.rows.now a.count y → b.count ≡ count_with a.rows.now a.count → b.rows.ghost_name ≡ a.rows.ghost_name → Added a b (y ∷ [])
+  added_one a b y w f l = record { written = w ∙ rows_one a.rows.now a.count y; filled = f ∙ count-one a.rows.now a.count y; lender = l }
+
+  pub added_then : (a b c : Book X) (ys zs : List X) → Added a b ys → Added b c zs → Added a c (ys ++ zs)
+  added_then a b c ys zs h k = record {
+    written = rows_then a.rows.now a.count ys zs b.rows.now c.rows.now b.count h.written h.filled k.written;
+    filled = count_then a.rows.now a.count ys zs b.rows.now b.count c.count h.written h.filled k.filled;
+    lender = k.lender ∙ h.lender;
+  }
+
+  -- the same said of an equal book and of an equal list, as at the end of a loop's turn
+  pub added_is : (a b b' : Book X) (ys ys' : List X) → b' ≡ b → ys ≡ ys' → Added a b ys → Added a b' ys'
+  added_is a b b' ys ys' e f h = subst (Added a b') f (subst (λ z. Added a z ys) (sym e) h)

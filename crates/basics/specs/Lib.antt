@@ -2,4 +2,5 @@
 pub mod Scan
 pub mod RouteSets
 pub mod Books
+pub mod Adding
 pub mod Lookup

@@ -1,15 +1,15 @@
 //! A book of entries over rows that are lent to it.
-ghost use Rattle.std.specs.Prelude.{◌≡◌, ◌<◌, length, take, slice_set};
+ghost use Rattle.std.specs.Prelude.{◌≡◌, ◌≤◌, length, take};
 ghost use Rattle.std.specs.List.{slice_get};
 ghost use Rattle.basics.specs.Books.{add_answer, book_number_of, count_with, place_answer, rows_with};
 
 /// Why a book refuses.
-#[derive(Clone, Copy)]
+#[derive(Clone, Copy, Debug, PartialEq, Eq)]
 pub enum BookFault {
     /// No row is left.
-    Full,
+    Full = 37,
     /// No entry stands at the place.
-    NoSuchPlace,
+    NoSuchPlace = 11,
 }
 
 impl BookFault {
@@ -17,10 +17,7 @@ impl BookFault {
     pub fn number(self) -> u8
         ensures { result ≡ book_number_of self }
     {
-        match self {
-            BookFault::Full => 37,
-            BookFault::NoSuchPlace => 11,
-        }
+        self as u8
     }
 }
 
@@ -29,6 +26,7 @@ impl BookFault {
 pub struct Book<'a, T> {
     rows: &'a mut [T],
     count: usize,
+    ghost within: { count ≤ length rows.now },
 }
 
 impl<'a, T: Copy> Book<'a, T> {
@@ -48,24 +46,22 @@ impl<'a, T: Copy> Book<'a, T> {
         ensures filled { self.new.count ≡ count_with self.old.rows.now self.old.count }
         ensures lender { self.new.rows.ghost_name ≡ self.old.rows.ghost_name }
     {
-        if self.count < self.rows.len() {
-            let at = self.count;
-            store(self.rows, at, entry);
-            self.count = at + 1;
-            Ok(())
-        } else {
-            Err(BookFault::Full)
+        if self.count == self.rows.len() {
+            return Err(BookFault::Full);
         }
+        self.rows[self.count] = entry;
+        self.count += 1;
+        Ok(())
     }
 
     /// The entry at a place, counted from 0.
     pub fn entry(&self, place: usize) -> Result<T, BookFault>
         ensures { result ≡ place_answer (slice_get (take self.now.count self.now.rows.now) place) }
     {
-        match held(self.rows, self.count, place) {
-            Some(found) => Ok(found),
-            None => Err(BookFault::NoSuchPlace),
-        }
+        self.entries()
+            .get(place)
+            .copied()
+            .ok_or(BookFault::NoSuchPlace)
     }
 
     /// How many entries there are.
@@ -79,34 +75,6 @@ impl<'a, T: Copy> Book<'a, T> {
     pub fn entries(&self) -> &[T]
         ensures { result.now ≡ take self.now.count self.now.rows.now }
     {
-        front(self.rows, self.count)
-    }
-}
-
-fn store<T: Copy>(rows: &mut [T], at: usize, entry: T)
-    requires { at < length rows.old }
-    ensures { rows.new ≡ slice_set rows.old at entry }
-{
-    rows[at] = entry;
-}
-
-fn front<T>(rows: &[T], count: usize) -> &[T]
-    ensures { result.now ≡ take count rows.now }
-{
-    if count < rows.len() {
-        &rows[0..count]
-    } else {
-        rows
-    }
-}
-
-// What stands at a place of the first `count` rows.
-fn held<T: Copy>(rows: &[T], count: usize, place: usize) -> Option<T>
-    ensures { result ≡ slice_get (take count rows.now) place }
-{
-    if place < count && place < rows.len() {
-        Some(rows[place])
-    } else {
-        None
+        &self.rows[..self.count]
     }
 }

@@ -14,16 +14,5 @@ pub trait Numbered {
 pub fn find_first<T: Numbered>(entries: &[T], wanted: u8) -> Option<usize>
     ensures { result ≡ first_of T.Numbered.numbered wanted entries.now }
 {
-    first_place(entries, wanted)
-}
-
-fn first_place<T: Numbered>(entries: &[T], wanted: u8) -> Option<usize>
-    ensures { result ≡ first_of T.Numbered.numbered wanted entries.now }
-{
-    for (i, entry) in entries.iter().enumerate() {
-        if entry.number() == wanted {
-            return Some(i);
-        }
-    }
-    None
+    entries.iter().position(|entry| entry.number() == wanted)
 }

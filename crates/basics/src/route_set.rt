@@ -2,28 +2,26 @@
 ghost use Rattle.std.specs.Prelude.{◌≡◌, length};
 ghost use Rattle.basics.specs.RouteSets.{member};
 
-#[derive(Clone, Copy)]
+#[derive(Clone, Copy, Debug, PartialEq, Eq)]
 pub struct RouteSet {
     members: [bool; 32],
     ghost sized: { length members ≡ 32 },
 }
 
-impl RouteSet {
-    /// The set of the routes at whose places `members` is true.
-    pub fn of(members: [bool; 32]) -> RouteSet
-        ensures { result.members ≡ members }
-    {
+/// The set of the routes at whose places `members` is true.
+impl From<[bool; 32]> for RouteSet {
+    ghost from_gives = { λ members set. set.members ≡ members };
+
+    fn from(members: [bool; 32]) -> RouteSet {
         RouteSet { members }
     }
+}
 
+impl RouteSet {
     /// Whether a route is in the set; one past the last never is.
     pub fn has(&self, route: usize) -> bool
         ensures { result ≡ member self.now.members route }
     {
-        if route < 32 {
-            self.members[route]
-        } else {
-            false
-        }
+        self.members.get(route).copied().unwrap_or(false)
     }
 }

@@ -2,20 +2,20 @@
 ghost use Rattle.std.specs.Prelude.{◌≡◌};
 ghost use Rattle.block.specs.Faults.{fault_number};
 
-#[derive(Clone, Copy)]
+#[derive(Clone, Copy, Debug, PartialEq, Eq)]
 pub enum BlockFault {
     /// The line is cut.
-    LineCut,
+    LineCut = 31,
     /// The route's consent is out already.
-    AlreadyOut,
+    AlreadyOut = 32,
     /// The consent of a hostile route is out.
-    HostileOut,
+    HostileOut = 33,
     /// The route's consent is at home.
-    NotOut,
+    NotOut = 34,
     /// The line is whole.
-    LineWhole,
+    LineWhole = 35,
     /// The block has no line for the route.
-    BeyondLines,
+    BeyondLines = 36,
 }
 
 impl BlockFault {
@@ -23,13 +23,6 @@ impl BlockFault {
     pub fn number(self) -> u8
         ensures { result ≡ fault_number self }
     {
-        match self {
-            BlockFault::LineCut => 31,
-            BlockFault::AlreadyOut => 32,
-            BlockFault::HostileOut => 33,
-            BlockFault::NotOut => 34,
-            BlockFault::LineWhole => 35,
-            BlockFault::BeyondLines => 36,
-        }
+        self as u8
     }
 }

@@ -40,14 +40,11 @@ mod tests {
         if route < 2 {
             members[1 - route] = true;
         }
-        RouteSet::of(members)
+        RouteSet::from(members)
     }
 
     fn number_of(answer: Result<(), BlockFault>) -> u8 {
-        match answer {
-            Ok(()) => 0,
-            Err(fault) => fault.number(),
-        }
+        answer.err().map_or(0, BlockFault::number)
     }
 
     fn work<B: Block>(block: &mut B, call: Call) -> u8 {

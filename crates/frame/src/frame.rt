@@ -62,7 +62,7 @@ impl<B: Block> Frame<B> {
         if self.block.lines() < plan.counts().routes {
             return Answer::Refused(Fault::Frame(FrameFault::TooFewLines), 0);
         }
-        if self.block.any_out(&RouteSet::of([true; 32])) {
+        if self.block.any_out(&RouteSet::from([true; 32])) {
             return Answer::Refused(Fault::Frame(FrameFault::ConsentOut), 0);
         }
         self.plan = plan;

@@ -75,6 +75,6 @@ impl Plan {
     pub fn hostile_set(&self, r: usize) -> RouteSet
         ensures { result.members ≡ hostiles_of self.now.layout r }
     {
-        RouteSet::of(hostile_members(&self.layout, r))
+        RouteSet::from(hostile_members(&self.layout, r))
     }
 }
