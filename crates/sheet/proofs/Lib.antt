@@ -9,4 +9,6 @@ pub mod Sheets
 pub mod Took
 pub mod Fits
 pub mod Round
+pub mod Chains
+pub mod Breaking
 pub mod Breaches

@@ -6,17 +6,17 @@ use Rattle.sheet.specs.Encode.{bits_of, each, head_bits, demand_bits, named_bits
 use Rattle.sheet.specs.Layouts.{route_in}
 use Rattle.sheet.specs.Valid.{Few}
 use Rattle.sheet.specs.Writing.{put, Wrote}
+use Rattle.sheet.specs.declared.bit_writer.BitWriter.{BitWriter}
 use Rattle.sheet.specs.declared.layout.Counts.{Counts}
 use Rattle.sheet.specs.declared.layout.Route.{Route}
 use Rattle.sheet.specs.declared.layout.Layout.{Layout}
 use Rattle.sheet.proofs.Puts.{wrote_append, length_route}
 use Rattle.sheet.proofs.Packing.{Binary, binary_append, binary_bits, binary_each, binary_zeros, put-pack, length-pack}
 
-pub wrote_filled : {o o₁ o₂ : List ℕ} {n n₁ n₂ : ℕ} (xs : List ℕ) → n ≡ 0 → Wrote o n o₁ n₁ xs
-    → Wrote o₁ n₁ o₂ n₂ (replicate ((n₁ + 7) / 8 * 8 - n₁) 0) → Wrote o n o₂ n₂ (filled xs)
-wrote_filled {o} {o₁} {o₂} {n} {n₁} {n₂} xs z a b =
-    let e : n₁ ≡ length xs = omega arith in
-    let P : ℕ → Type 0 = λ m. Wrote o₁ n₁ o₂ n₂ (replicate ((m + 7) / 8 * 8 - m) 0) in
+pub wrote_filled : {w w₁ w₂ : BitWriter} (xs : List ℕ) → w.at ≡ 0 → Wrote w w₁ xs → Wrote w₁ w₂ (replicate ((w₁.at + 7) / 8 * 8 - w₁.at) 0) → Wrote w w₂ (filled xs)
+wrote_filled {w} {w₁} {w₂} xs z a b =
+    let e : w₁.at ≡ length xs = omega (arith, a.after) in
+    let P : ℕ → Type 0 = λ m. Wrote w₁ w₂ (replicate ((m + 7) / 8 * 8 - m) 0) in
     wrote_append a (subst P e b)
 
 pub length-filled : (xs : List ℕ) → length (filled xs) ≡ 8 * ((length xs + 7) / 8)
@@ -102,10 +102,11 @@ pub length_sheet : (l : Layout) → length (sheet_of l) ≡ (length (encode l) +
 unfolding sheet_of
 length_sheet l = length-pack (filled (encode l)) ((length (encode l) + 7) / 8) (length-filled (encode l))
 
-pub sheet_written : {o o' : List ℕ} {n n' : ℕ} (l : Layout) → n ≡ 0 → (length (encode l) + 7) / 8 ≤ length o → Wrote o n o' n' (filled (encode l))
-    → o' ≡ sheet_of l ++ drop (length (sheet_of l)) o
+pub sheet_written : {w w' : BitWriter} (l : Layout) → w.at ≡ 0 → (length (encode l) + 7) / 8 ≤ length w.out.now → Wrote w w' (filled (encode l))
+    → w'.out.now ≡ sheet_of l ++ drop (length (sheet_of l)) w.out.now
 unfolding sheet_of
-sheet_written {o} {o'} {n} {n'} l z r w =
+sheet_written {w} {w'} l z r x =
     let k = (length (encode l) + 7) / 8 in
+    let o = w.out.now in
     let p = put-pack (filled (encode l)) [] o 0 k refl (binary_sheet l) (length-filled (encode l)) r in
-    w.bytes ∙ (ap (λ m. put o m (filled (encode l))) z ∙ (p ∙ ap (λ m. sheet_of l ++ drop m o) (sym (length_sheet l))))
+    x.bytes ∙ (ap (λ m. put o m (filled (encode l))) z ∙ (p ∙ ap (λ m. sheet_of l ++ drop m o) (sym (length_sheet l))))

@@ -1,5 +1,6 @@
 -- The bits of a sheet, and what reading them gives.
-use Rattle.std.specs.Prelude.{ℕ, zero, suc, ◌+◌, ◌-◌, ◌*◌, ◌/◌, ◌%◌, ◌^◌, ◌<◌, Bool, cond, List, length, Ok, Err, Result, nat_le, slice_index}
+use Rattle.std.specs.Prelude.{◌≡◌, ◌≤◌, ℕ, zero, suc, ◌+◌, ◌-◌, ◌*◌, ◌/◌, ◌%◌, ◌^◌, ◌<◌, Bool, cond, List, length, Ok, Err, Result, nat_le, slice_index}
+use Rattle.sheet.specs.declared.bits.BitReader.{BitReader}
 use Rattle.sheet.specs.declared.fault.SheetFault.{SheetFault}
 use Rattle.sheet.specs.declared.fault.Flaw.{Flaw}
 use Rattle.sheet.specs.declared.fault.Flaw.TheVariants.{EndsInside}
@@ -35,6 +36,11 @@ next (fault w p) f = fault w p
 abbrev pub told : {A : Type 0} → Result A SheetFault → List ℕ → ℕ → Read A
 told (Ok a) s i = done a s i
 told (Err e) s i = fault e.flaw e.place
+
+-- what a reader b answers, and the reader that it is then: what is read of its sheet from its bit on, and at most k bits further
+pub record Reads {A : Type 0} (b : BitReader) (answer : Result A SheetFault) (b' : BitReader) (reading : List ℕ → ℕ → Read A) (k : ℕ) : Type 0 where
+  pub value : told answer b'.bytes.now b'.at ≡ reading b.bytes.now b.at
+  pub near : b'.at ≤ b.at + k
 
 -- a field of k bits at bit i
 abbrev pub field_at : List ℕ → ℕ → ℕ → Read ℕ

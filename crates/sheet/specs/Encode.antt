@@ -1,5 +1,6 @@
 -- The sheet of a plan: the layout the other way round.
-use Rattle.std.specs.Prelude.{ℕ, zero, suc, ◌+◌, ◌-◌, ◌*◌, ◌/◌, ◌%◌, ◌^◌, Bool, false, cond, List, [], ◌∷◌, ◌++◌, length, replicate, Some, None, Option, slice_index_or}
+use Rattle.std.specs.Prelude.{ℕ, zero, suc, ◌+◌, ◌-◌, ◌*◌, ◌/◌, ◌%◌, ◌^◌, Bool, false, cond, List, [], ◌∷◌, ◌++◌, length, replicate, None, Option, slice_index_or}
+use Rattle.std.specs.List.{flat_map}
 use Rattle.sheet.specs.Codes.{side_code, release_code, demand_code, flag_code}
 use Rattle.sheet.specs.Layouts.{route_in}
 use Rattle.sheet.specs.declared.layout.Position.{Position}
@@ -11,6 +12,10 @@ use Rattle.sheet.specs.declared.layout.Layout.{Layout}
 abbrev pub bits_of : ℕ → ℕ → List ℕ
 bits_of zero v = []
 bits_of (suc k) v = v / 2 ^ k % 2 ∷ bits_of k v
+
+-- the codes of a row, each of w bits
+abbrev pub codes_bits : {A : Type 0} → ℕ → (A → ℕ) → List A → List ℕ
+codes_bits w code xs = flat_map (λ x. bits_of w (code x)) xs
 
 -- the bits of m items from item k on
 abbrev pub each : (ℕ → List ℕ) → ℕ → ℕ → List ℕ

@@ -1,5 +1,5 @@
 -- The rules of a whole plan: no two routes on one lever and side, and no lever and no signal without a route.
-use Rattle.std.specs.Prelude.{ℕ, Bool, not, ◌&&◌, Option, ◌==◌, nat_eq}
+use Rattle.std.specs.Prelude.{ℕ, Bool, not, ◌&&◌, Option, ◌==◌, nat_eq, nat_lt}
 use Rattle.basics.specs.Scan.{any, lowest}
 use Rattle.sheet.specs.Layouts.{route_in, same_side}
 use Rattle.sheet.specs.declared.fault.Flaw.{Flaw}
@@ -35,6 +35,10 @@ abbrev pub extent_of : Layout → PlanRule → ℕ
 extent_of l OneRouteASide = l.counts.routes
 extent_of l LeversServe = l.counts.levers
 extent_of l SignalsServe = l.counts.signals
+
+-- there is a route, lever or signal k, and it breaks the rule
+abbrev pub breaks : Layout → PlanRule → ℕ → Bool
+breaks l k n = nat_lt n (extent_of l k) && broken l k n
 
 abbrev pub flaw_of : PlanRule → Flaw
 flaw_of OneRouteASide = SharedLever

@@ -1,7 +1,8 @@
 -- What writing a plan answers and leaves, and, for the parts of the writer, what they have written.
-use Rattle.std.specs.Prelude.{◌≡◌, ℕ, ◌+◌, ◌*◌, ◌/◌, ◌%◌, cond, List, [], ◌∷◌, ◌++◌, length, drop, Ok, Err, Result, ◌==◌, nat_le, slice_index, slice_set}
+use Rattle.std.specs.Prelude.{◌≡◌, ℕ, ◌+◌, ◌*◌, ◌/◌, ◌%◌, cond, List, [], ◌∷◌, ◌++◌, length, drop, Ok, Err, Result, ◌≤◌, ◌==◌, nat_le, slice_index, slice_set}
 use Rattle.sheet.specs.Faults.{number_of}
 use Rattle.sheet.specs.Encode.{sheet_of}
+use Rattle.sheet.specs.declared.bit_writer.BitWriter.{BitWriter}
 use Rattle.sheet.specs.declared.fault.SheetFault.{SheetFault}
 use Rattle.sheet.specs.declared.fault.Flaw.TheVariants.{BlankPlan, NoRoom}
 use Rattle.sheet.specs.declared.layout.Layout.{Layout}
@@ -29,8 +30,13 @@ abbrev pub put : List ℕ → ℕ → List ℕ → List ℕ
 put bytes n [] = bytes
 put bytes n (b ∷ bs) = put (slice_set bytes (n / 8) (slice_index bytes (n / 8) % 128 * 2 + b)) (n + 1) bs
 
--- xs was written: the bytes and the bit before, and those after
-pub record Wrote (o : List ℕ) (n : ℕ) (o' : List ℕ) (n' : ℕ) (xs : List ℕ) : Type 0 where
-  pub bytes : o' ≡ put o n xs
-  pub after : n' ≡ n + length xs
-  pub size : length o' ≡ length o
+-- a writer has room for n bits more, and has not come far
+abbrev pub HasRoom : BitWriter → ℕ → Type 0
+HasRoom w n = (w.at + n ≤ 8 * length w.out.now) × (w.at + n ≤ 4000)
+
+-- bits were written by a writer w, which is w' then: into the lender's same buffer
+pub record Wrote (w w' : BitWriter) (xs : List ℕ) : Type 0 where
+  pub bytes : w'.out.now ≡ put w.out.now w.at xs
+  pub after : w'.at ≡ w.at + length xs
+  pub size : length w'.out.now ≡ length w.out.now
+  pub lender : w'.out.ghost_name ≡ w.out.ghost_name

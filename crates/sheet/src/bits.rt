@@ -1,6 +1,6 @@
 //! The bit reader: fields that follow one another without gaps, most significant bit first.
-ghost use Rattle.std.specs.Prelude.{◌≡◌, ◌+◌, ◌<◌, ◌≤◌, IfOk};
-ghost use Rattle.sheet.specs.Bits.{bit_of, field_at, told};
+ghost use Rattle.std.specs.Prelude.{◌≡◌, ◌<◌, ◌≤◌, IfOk};
+ghost use Rattle.sheet.specs.Bits.{Reads, bit_of, field_at};
 ghost use Rattle.sheet.specs.Fields.{coded_at, count_at, edition_at, filling_at, number_at};
 
 use crate::coded::Coded;
@@ -34,9 +34,9 @@ impl<'a> BitReader<'a> {
 
     // The next `width` bits as a number.
     fn field(&mut self, width: usize) -> Result<usize, SheetFault>
-        requires { (0 < width) × ((width ≤ 8) × (self.old.at ≤ 4000)) }
-        ensures value { told result self.new.bytes.now self.new.at ≡ field_at self.old.bytes.now self.old.at width }
-        ensures near { self.new.at ≤ self.old.at + width }
+        requires width { (0 < width) × (width ≤ 8) }
+        requires near { self.old.at ≤ 4000 }
+        ensures { Reads self.old result self.new (λ s i. field_at s i width) width }
     {
         let start = self.at;
         if (start + width - 1) / 8 >= self.bytes.len() {
@@ -55,8 +55,7 @@ impl<'a> BitReader<'a> {
 
     pub(crate) fn edition(&mut self) -> Result<(), SheetFault>
         requires { self.old.at ≤ 4000 }
-        ensures value { told result self.new.bytes.now self.new.at ≡ edition_at self.old.bytes.now self.old.at }
-        ensures near { self.new.at ≤ self.old.at + 4 }
+        ensures { Reads self.old result self.new edition_at 4 }
     {
         let place = self.at;
         if self.field(4)? != 1 {
@@ -74,10 +73,10 @@ impl<'a> BitReader<'a> {
         least: usize,
         most: usize,
     ) -> Result<usize, SheetFault>
-        requires { (0 < width) × ((width ≤ 8) × (self.old.at ≤ 4000)) }
-        ensures value { told result self.new.bytes.now self.new.at ≡ count_at self.old.bytes.now self.old.at width least most }
+        requires width { (0 < width) × (width ≤ 8) }
+        requires near { self.old.at ≤ 4000 }
+        ensures read { Reads self.old result self.new (λ s i. count_at s i width least most) width }
         ensures within { IfOk result (λ n. (least ≤ n) × (n ≤ most)) }
-        ensures near { self.new.at ≤ self.old.at + width }
     {
         let place = self.at;
         let n = self.field(width)?;
@@ -92,10 +91,10 @@ impl<'a> BitReader<'a> {
 
     // The number of a lever or a signal.
     pub(crate) fn number(&mut self, width: usize, limit: usize) -> Result<usize, SheetFault>
-        requires { (0 < width) × ((width ≤ 8) × (self.old.at ≤ 4000)) }
-        ensures value { told result self.new.bytes.now self.new.at ≡ number_at self.old.bytes.now self.old.at width limit }
+        requires width { (0 < width) × (width ≤ 8) }
+        requires near { self.old.at ≤ 4000 }
+        ensures read { Reads self.old result self.new (λ s i. number_at s i width limit) width }
         ensures below { IfOk result (λ n. n < limit) }
-        ensures near { self.new.at ≤ self.old.at + width }
     {
         let place = self.at;
         let n = self.field(width)?;
@@ -111,8 +110,7 @@ impl<'a> BitReader<'a> {
     // A field that is a code; only a point's may stand for nothing.
     pub(crate) fn coded<T: Coded>(&mut self) -> Result<T, SheetFault>
         requires { self.old.at ≤ 4000 }
-        ensures value { told result self.new.bytes.now self.new.at ≡ coded_at T.WIDTH T.value_of self.old.bytes.now self.old.at }
-        ensures near { self.new.at ≤ self.old.at + T.WIDTH }
+        ensures { Reads self.old result self.new (coded_at T.WIDTH T.value_of) T.WIDTH }
     {
         let place = self.at;
         let code = self.field(T::WIDTH)?;
@@ -125,7 +123,7 @@ impl<'a> BitReader<'a> {
     // Zeros up to a whole byte, and no byte after them.
     pub(crate) fn filling(&mut self) -> Result<(), SheetFault>
         requires { self.old.at ≤ 4000 }
-        ensures { told result self.new.bytes.now self.new.at ≡ filling_at self.old.bytes.now self.old.at }
+        ensures { Reads self.old result self.new filling_at 7 }
     {
         let end = (self.at + 7) / 8 * 8;
         for i in self.at..end {

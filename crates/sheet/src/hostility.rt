@@ -5,11 +5,12 @@ ghost use Rattle.sheet.specs.Hostility.{are_hostile, clashing, hostiles_of, oppo
 use crate::layout::{Layout, Position, Route};
 use crate::plan::Plan;
 use basics::route_set::RouteSet;
+use std::array;
 
 fn are_opposed(a: Option<Position>, b: Option<Position>) -> bool
     ensures { result ≡ opposed a b }
 {
-    a.is_some() && b.is_some() && a != b
+    a.zip(b).is_some_and(|(a, b)| a != b)
 }
 
 // Whether two routes demand one of the first points in both positions.
@@ -17,12 +18,10 @@ fn clash(a: &Route, b: &Route, points: usize) -> bool
     requires { points ≤ 32 }
     ensures { result ≡ clashing a.now b.now points }
 {
-    for p in 0..points {
-        if are_opposed(a.demands[p], b.demands[p]) {
-            return true;
-        }
-    }
-    false
+    a.demands[..points]
+        .iter()
+        .zip(&b.demands[..points])
+        .any(|(a, b)| are_opposed(*a, *b))
 }
 
 fn oppose(layout: &Layout, r: usize, q: usize) -> bool
@@ -54,11 +53,7 @@ fn hostile_members(layout: &Layout, r: usize) -> [bool; 32]
     requires { (layout.now.counts.points ≤ 32) × (layout.now.counts.routes ≤ 32) }
     ensures { result ≡ hostiles_of layout.now r }
 {
-    let mut members = [false; 32];
-    for q in 0..32 {
-        members[q] = are_hostile(layout, r, q);
-    }
-    members
+    array::from_fn(|q| are_hostile(layout, r, q))
 }
 
 impl Plan {

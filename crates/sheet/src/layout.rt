@@ -1,4 +1,5 @@
 //! What a plan says: how many there are of each thing, and what each route asks. An enum's numbers are its codes in a sheet.
+ghost use Rattle.std.specs.Prelude.{◌≡◌, ◌≤◌, take};
 
 /// Which way a route lever is thrown.
 #[derive(Clone, Copy, Debug, PartialEq, Eq)]
@@ -55,4 +56,14 @@ pub struct Counts {
 pub struct Layout {
     pub counts: Counts,
     pub routes: [Route; 32],
+}
+
+impl Layout {
+    // The routes that the plan has.
+    pub(crate) fn routes(&self) -> &[Route]
+        requires { self.now.counts.routes ≤ 32 }
+        ensures { result.now ≡ take self.now.counts.routes self.now.routes }
+    {
+        &self.routes[..self.counts.routes]
+    }
 }

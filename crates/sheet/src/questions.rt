@@ -35,10 +35,6 @@ impl Plan {
     pub fn route(&self, r: usize) -> Option<Route>
         ensures { result ≡ route_given self.now.layout r }
     {
-        if r < self.layout.counts.routes {
-            Some(self.layout.routes[r])
-        } else {
-            None
-        }
+        self.layout.routes().get(r).copied()
     }
 }

@@ -1,6 +1,6 @@
 //! From a sheet's bytes to its plan.
-ghost use Rattle.std.specs.Prelude.{◌≡◌, ◌+◌, ◌-◌, ◌*◌, ◌<◌, ◌≤◌, IfOk};
-ghost use Rattle.sheet.specs.Bits.{told};
+ghost use Rattle.std.specs.Prelude.{◌≡◌, ◌-◌, ◌*◌, ◌<◌, ◌≤◌, IfOk};
+ghost use Rattle.sheet.specs.Bits.{Reads};
 ghost use Rattle.sheet.specs.Decode.{decode, drawn};
 ghost use Rattle.sheet.specs.Encode.{sheet_of};
 ghost use Rattle.sheet.specs.Fields.{counts_at, layout_at, route_at, routes_at, row_at};
@@ -17,9 +17,8 @@ use std::ops::Range;
 
 fn counts(bits: &mut BitReader) -> Result<Counts, SheetFault>
     requires { bits.old.at ≤ 4 }
-    ensures value { told result bits.new.bytes.now bits.new.at ≡ counts_at bits.old.bytes.now bits.old.at }
+    ensures read { Reads bits.old result bits.new counts_at 23 }
     ensures within { IfOk result (λ c. Few c × (0 < c.routes)) }
-    ensures near { bits.new.at ≤ bits.old.at + 23 }
 {
     let points = bits.count(6, 0, 32)?;
     let signals = bits.count(6, 1, 32)?;
@@ -41,8 +40,7 @@ fn row<T: Coded>(
 ) -> Result<[T; 32], SheetFault>
     requires near { bits.old.at ≤ 3900 }
     requires places { (places.start ≤ places.end) × (places.end ≤ 32) }
-    ensures value { told result bits.new.bytes.now bits.new.at ≡ row_at T.WIDTH T.value_of blank places.start places.end bits.old.bytes.now bits.old.at }
-    ensures near { bits.new.at ≤ bits.old.at + T.WIDTH * (places.end - places.start) }
+    ensures { Reads bits.old result bits.new (row_at T.WIDTH T.value_of blank places.start places.end) (T.WIDTH * (places.end - places.start)) }
 {
     let mut row = [blank; 32];
     // By number: a loop over `&mut row[places]` is not covered by the checker yet.
@@ -53,10 +51,11 @@ fn row<T: Coded>(
 }
 
 fn route(bits: &mut BitReader, counts: Counts, r: usize) -> Result<Route, SheetFault>
-    requires { (bits.old.at ≤ 3800) × ((Few counts) × (r < counts.routes)) }
-    ensures value { told result bits.new.bytes.now bits.new.at ≡ route_at counts r bits.old.bytes.now bits.old.at }
+    requires near { bits.old.at ≤ 3800 }
+    requires few { Few counts }
+    requires here { r < counts.routes }
+    ensures read { Reads bits.old result bits.new (route_at counts r) 107 }
     ensures within { IfOk result (λ y. (y.lever < counts.levers) × (y.signal < counts.signals)) }
-    ensures near { bits.new.at ≤ bits.old.at + 107 }
 {
     let lever = bits.number(4, counts.levers)?;
     let side = bits.coded()?;
@@ -75,10 +74,10 @@ fn route(bits: &mut BitReader, counts: Counts, r: usize) -> Result<Route, SheetF
 }
 
 fn routes(bits: &mut BitReader, counts: Counts) -> Result<[Route; 32], SheetFault>
-    requires { (bits.old.at ≤ 27) × (Few counts) }
-    ensures value { told result bits.new.bytes.now bits.new.at ≡ routes_at counts bits.old.bytes.now bits.old.at }
+    requires near { bits.old.at ≤ 27 }
+    requires few { Few counts }
+    ensures read { Reads bits.old result bits.new (routes_at counts) 3424 }
     ensures within { IfOk result (WithinTo counts.routes counts) }
-    ensures near { bits.new.at ≤ bits.old.at + 3424 }
 {
     let mut rows = [NO_ROUTE; 32];
     for k in 0..counts.routes {
@@ -89,7 +88,7 @@ fn routes(bits: &mut BitReader, counts: Counts) -> Result<[Route; 32], SheetFaul
 
 pub(crate) fn layout(bits: &mut BitReader) -> Result<Layout, SheetFault>
     requires { bits.old.at ≡ 0 }
-    ensures value { told result bits.new.bytes.now bits.new.at ≡ layout_at bits.old.bytes.now bits.old.at }
+    ensures read { Reads bits.old result bits.new layout_at 3458 }
     ensures within { IfOk result (λ l. Few l.counts × (0 < l.counts.routes) × Within l) }
 {
     bits.edition()?;

@@ -1,10 +1,10 @@
 //! The rules of a whole plan, tested once all of its fields are read.
 ghost use Rattle.std.specs.Prelude.{◌≡◌, ◌<◌, ◌≤◌};
 ghost use Rattle.sheet.specs.Decode.{accepted, judged, refuse, ruled};
-ghost use Rattle.sheet.specs.Rules.{alike, broken, extent_of, flaw_of, has_lever, has_signal, lowest_broken, shared};
+ghost use Rattle.sheet.specs.Rules.{breaks, extent_of, flaw_of, lowest_broken, shared};
 
 use crate::fault::{Flaw, SheetFault};
-use crate::layout::{Layout, Route, Side};
+use crate::layout::Layout;
 
 /// Each is asked of one route, lever or signal at a time.
 #[derive(Clone, Copy)]
@@ -36,16 +36,18 @@ impl PlanRule {
         }
     }
 
-    // Whether route, lever or signal `k` breaks it.
+    // Whether there is a route, lever or signal `k` and it breaks it.
     pub(crate) fn is_broken(self, layout: &Layout, k: usize) -> bool
-        requires { (layout.now.counts.routes ≤ 32) × (k < extent_of layout.now self) }
-        ensures { result ≡ broken layout.now self k }
+        requires { layout.now.counts.routes ≤ 32 }
+        ensures { result ≡ breaks layout.now self k }
     {
-        match self {
-            PlanRule::OneRouteASide => shares_lever(layout, k),
-            PlanRule::LeversServe => !lever_serves(layout, k),
-            PlanRule::SignalsServe => !signal_serves(layout, k),
-        }
+        let routes = layout.routes();
+        k < self.extent(layout)
+            && match self {
+                PlanRule::OneRouteASide => shares_lever(layout, k),
+                PlanRule::LeversServe => !routes.iter().any(|route| route.lever == k),
+                PlanRule::SignalsServe => !routes.iter().any(|route| route.signal == k),
+            }
     }
 
     // The lowest route, lever or signal that breaks it.
@@ -53,12 +55,7 @@ impl PlanRule {
         requires { layout.now.counts.routes ≤ 32 }
         ensures { result ≡ lowest_broken layout.now self }
     {
-        for k in 0..self.extent(layout) {
-            if self.is_broken(layout, k) {
-                return Some(k);
-            }
-        }
-        None
+        (0..self.extent(layout)).find(|k| self.is_broken(layout, *k))
     }
 
     fn test(self, layout: &Layout) -> Result<(), SheetFault>
@@ -75,50 +72,13 @@ impl PlanRule {
     }
 }
 
-fn are_alike(a: &Route, b: &Route) -> bool
-    ensures { result ≡ alike a.now b.now }
-{
-    match (a.side, b.side) {
-        (Side::Up, Side::Up) | (Side::Down, Side::Down) => a.lever == b.lever,
-        _ => false,
-    }
-}
-
 // Whether a lower route has the lever and the side of route `r`.
 fn shares_lever(layout: &Layout, r: usize) -> bool
     requires { r < 32 }
     ensures { result ≡ shared layout.now r }
 {
-    for q in 0..r {
-        if are_alike(&layout.routes[q], &layout.routes[r]) {
-            return true;
-        }
-    }
-    false
-}
-
-fn lever_serves(layout: &Layout, lever: usize) -> bool
-    requires { layout.now.counts.routes ≤ 32 }
-    ensures { result ≡ has_lever layout.now lever }
-{
-    for r in 0..layout.counts.routes {
-        if layout.routes[r].lever == lever {
-            return true;
-        }
-    }
-    false
-}
-
-fn signal_serves(layout: &Layout, signal: usize) -> bool
-    requires { layout.now.counts.routes ≤ 32 }
-    ensures { result ≡ has_signal layout.now signal }
-{
-    for r in 0..layout.counts.routes {
-        if layout.routes[r].signal == signal {
-            return true;
-        }
-    }
-    false
+    let route = &layout.routes[r];
+    layout.routes[..r].iter().any(|lower| (lower.lever, lower.side) == (route.lever, route.side))
 }
 
 // The rules in their order.

@@ -1,54 +1,19 @@
 //! From a plan to the bytes of its sheet.
 ghost use Rattle.std.specs.Prelude.{◌≡◌, ◌+◌, ◌-◌, ◌*◌, ◌/◌, ◌<◌, ◌≤◌, length, take, replicate, IfOk};
 ghost use Rattle.sheet.specs.Decode.{accepted, decode};
-ghost use Rattle.sheet.specs.Codes.{demand_code, flag_code, release_code, side_code};
-ghost use Rattle.sheet.specs.Encode.{demand_bits, each, encode, filled, head_bits, named_bits, route_bits, routes_bits, sheet_of, size_of};
+ghost use Rattle.sheet.specs.Encode.{encode, filled, head_bits, route_bits, routes_bits, sheet_of, size_of};
 ghost use Rattle.sheet.specs.Valid.{Few, Sound};
-ghost use Rattle.sheet.specs.Writing.{Wrote, writing, written};
+ghost use Rattle.sheet.specs.Writing.{HasRoom, Wrote, writing, written};
 
 use crate::bit_writer::BitWriter;
 use crate::fault::{Flaw, SheetFault};
-use crate::layout::{Counts, Layout, Position, Release, Route, Side};
+use crate::layout::{Counts, Layout, Route};
 use crate::plan::Plan;
 
-fn side_code(side: Side) -> usize
-    ensures { result ≡ side_code side }
-{
-    match side {
-        Side::Up => 0,
-        Side::Down => 1,
-    }
-}
-
-fn release_code(release: Release) -> usize
-    ensures { result ≡ release_code release }
-{
-    match release {
-        Release::Station => 0,
-        Release::Train => 1,
-    }
-}
-
-fn demand_code(demand: Option<Position>) -> usize
-    ensures { result ≡ demand_code demand }
-{
-    match demand {
-        None => 0,
-        Some(Position::Plus) => 1,
-        Some(Position::Minus) => 2,
-    }
-}
-
-fn flag_code(flag: bool) -> usize
-    ensures { result ≡ flag_code flag }
-{
-    if flag { 1 } else { 0 }
-}
-
 fn put_head(w: &mut BitWriter, counts: Counts)
-    requires { (w.old.at + 27 ≤ 8 * length w.old.out.now) × (w.old.at ≡ 0) }
-    ensures wrote { Wrote w.old.out.now w.old.at w.new.out.now w.new.at (head_bits counts) }
-    ensures same { w.new.out.ghost_name ≡ w.old.out.ghost_name }
+    requires start { w.old.at ≡ 0 }
+    requires room { HasRoom w.old 27 }
+    ensures { Wrote w.old w.new (head_bits counts) }
 {
     w.put(4, 1);
     w.put(6, counts.points);
@@ -57,66 +22,47 @@ fn put_head(w: &mut BitWriter, counts: Counts)
     w.put(6, counts.routes);
 }
 
-fn put_demands(w: &mut BitWriter, points: usize, row: &[Option<Position>; 32])
-    requires { (w.old.at + length (each (demand_bits row.now) points 0) ≤ 8 * length w.old.out.now) × ((w.old.at + length (each (demand_bits row.now) points 0) ≤ 4000) × (points ≤ 32)) }
-    ensures wrote { Wrote w.old.out.now w.old.at w.new.out.now w.new.at (each (demand_bits row.now) points 0) }
-    ensures same { w.new.out.ghost_name ≡ w.old.out.ghost_name }
-{
-    for k in 0..points {
-        w.put(2, demand_code(row[k]));
-    }
-}
-
-// For each route above route `r`, whether the pair is named hostile.
-fn put_named(w: &mut BitWriter, routes: usize, r: usize, row: &[bool; 32])
-    requires { (w.old.at + length (each (named_bits row.now) (routes - (r + 1)) (r + 1)) ≤ 8 * length w.old.out.now) × ((w.old.at + length (each (named_bits row.now) (routes - (r + 1)) (r + 1)) ≤ 4000) × ((routes ≤ 32) × (r < routes))) }
-    ensures wrote { Wrote w.old.out.now w.old.at w.new.out.now w.new.at (each (named_bits row.now) (routes - (r + 1)) (r + 1)) }
-    ensures same { w.new.out.ghost_name ≡ w.old.out.ghost_name }
-{
-    for k in r + 1..routes {
-        w.put(1, flag_code(row[k]));
-    }
-}
-
 fn put_route(w: &mut BitWriter, counts: Counts, route: &Route, r: usize)
-    requires { (w.old.at + length (route_bits counts route.now r) ≤ 8 * length w.old.out.now) × ((w.old.at + length (route_bits counts route.now r) ≤ 4000) × ((Few counts) × (r < counts.routes))) }
-    ensures wrote { Wrote w.old.out.now w.old.at w.new.out.now w.new.at (route_bits counts route.now r) }
-    ensures same { w.new.out.ghost_name ≡ w.old.out.ghost_name }
+    requires few { Few counts }
+    requires here { r < counts.routes }
+    requires room { HasRoom w.old (length (route_bits counts route.now r)) }
+    ensures { Wrote w.old w.new (route_bits counts route.now r) }
 {
     w.put(4, route.lever);
-    w.put(1, side_code(route.side));
+    w.put_coded(route.side);
     w.put(5, route.signal);
-    w.put(1, release_code(route.release));
-    put_demands(w, counts.points, &route.demands);
-    put_named(w, counts.routes, r, &route.named);
+    w.put_coded(route.release);
+    w.put_row(&route.demands[..counts.points]);
+    // For each higher route, whether the pair is named hostile.
+    w.put_row(&route.named[r + 1..counts.routes]);
 }
 
 fn put_routes(w: &mut BitWriter, layout: &Layout)
-    requires { (w.old.at + length (routes_bits layout.now) ≤ 8 * length w.old.out.now) × ((w.old.at + length (routes_bits layout.now) ≤ 4000) × (Few layout.now.counts)) }
-    ensures wrote { Wrote w.old.out.now w.old.at w.new.out.now w.new.at (routes_bits layout.now) }
-    ensures same { w.new.out.ghost_name ≡ w.old.out.ghost_name }
+    requires few { Few layout.now.counts }
+    requires room { HasRoom w.old (length (routes_bits layout.now)) }
+    ensures { Wrote w.old w.new (routes_bits layout.now) }
 {
-    for k in 0..layout.counts.routes {
-        put_route(w, layout.counts, &layout.routes[k], k);
+    for (r, route) in layout.routes[..layout.counts.routes].iter().enumerate() {
+        put_route(w, layout.counts, route, r);
     }
 }
 
 // Zeros up to a whole byte.
 fn put_filling(w: &mut BitWriter)
-    requires { ((w.old.at + 7) / 8 ≤ length w.old.out.now) × (w.old.at ≤ 3990) }
-    ensures wrote { Wrote w.old.out.now w.old.at w.new.out.now w.new.at (replicate ((w.old.at + 7) / 8 * 8 - w.old.at) 0) }
-    ensures same { w.new.out.ghost_name ≡ w.old.out.ghost_name }
+    requires room { (w.old.at + 7) / 8 ≤ length w.old.out.now }
+    requires near { w.old.at ≤ 3990 }
+    ensures { Wrote w.old w.new (replicate ((w.old.at + 7) / 8 * 8 - w.old.at) 0) }
 {
     let end = (w.at + 7) / 8 * 8;
-    for _k in w.at..end {
-        w.push(0);
-    }
+    w.put(end - w.at, 0);
 }
 
 fn put_sheet(w: &mut BitWriter, layout: &Layout)
-    requires { (w.old.at ≡ 0) × (((length (encode layout.now) + 7) / 8 ≤ length w.old.out.now) × ((length (encode layout.now) ≤ 3990) × (Few layout.now.counts))) }
-    ensures wrote { Wrote w.old.out.now w.old.at w.new.out.now w.new.at (filled (encode layout.now)) }
-    ensures same { w.new.out.ghost_name ≡ w.old.out.ghost_name }
+    requires start { w.old.at ≡ 0 }
+    requires few { Few layout.now.counts }
+    requires room { (length (encode layout.now) + 7) / 8 ≤ length w.old.out.now }
+    requires near { length (encode layout.now) ≤ 3990 }
+    ensures { Wrote w.old w.new (filled (encode layout.now)) }
 {
     put_head(w, layout.counts);
     put_routes(w, layout);

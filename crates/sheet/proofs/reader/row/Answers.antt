@@ -11,16 +11,12 @@ coded-requires g c =
     let m : g.T.Coded.WIDTH * (c.loop-k.k - c.args.places.start) ≤ 2 * 32 = mul-le-mul g.met.T.Coded.agree.narrow.1 far in
     omega arith
 
-pub returns-in_err-row-clause-value : goal.returns-in_err-row-clause-value
-returns-in_err-row-clause-value g c =
+pub returns-in_err-row : goal.returns-in_err-row
+returns-in_err-row g c =
     let e = sym (fill_stop (λ k. coded_at g.T.Coded.WIDTH g.T.Coded.value_of) _ _ c.args.places.end _ _ _ _ (omega arith) c.in_err-row.ensures.value) ∙ c.loop-k.invariant.read in
-    search rules
-
-pub returns-in_err-row-clause-near : goal.returns-in_err-row-clause-near
-returns-in_err-row-clause-near g c =
     let m = wider g.T.Coded.WIDTH c.args.places.start c.loop-k.k (omega arith) in
     let n : g.T.Coded.WIDTH * (c.loop-k.k + 1 - c.args.places.start) ≤ g.T.Coded.WIDTH * (c.args.places.end - c.args.places.start) = mul-le-mul_left _ (omega arith) in
-    omega arith
+    record { value = search rules; near = omega arith }
 
 pub loop-k-preserved : goal.loop-k-preserved
 loop-k-preserved g c =
@@ -31,7 +27,7 @@ loop-k-preserved g c =
       size = length-set _ _ _ ∙ c.loop-k.invariant.size;
     }
 
-pub returns-clause-near : goal.returns-clause-near
-returns-clause-near g c =
+pub returns : goal.returns
+returns g c =
     let n : g.T.Coded.WIDTH * (c.loop-k.k - c.args.places.start) ≤ g.T.Coded.WIDTH * (c.args.places.end - c.args.places.start) = mul-le-mul_left _ (omega arith) in
-    omega arith
+    record { value = search rules; near = omega arith }

@@ -6,17 +6,17 @@ use Rattle.sheet.proofs.reader.valid_layout.Goals as goal
 
 pub returns-in_err-layout-clause-outcome : goal.returns-in_err-layout-clause-outcome
 returns-in_err-layout-clause-outcome c =
-    let e = decode_fault _ _ _ c.new-bits.ensures.sheet c.new-bits.ensures.start _ _ c.in_err-layout.ensures.value in search rules
+    let e = decode_fault _ _ _ c.new-bits.ensures.sheet c.new-bits.ensures.start _ _ c.in_err-layout.ensures.read.value in search rules
 
 pub returns-in_err-judge-clause-outcome : goal.returns-in_err-judge-clause-outcome
 returns-in_err-judge-clause-outcome c =
-    let e = decode_done _ _ _ c.new-bits.ensures.sheet c.new-bits.ensures.start c.in_ok-layout.layout _ _ c.in_ok-layout.ensures.value in search rules
+    let e = decode_done _ _ _ c.new-bits.ensures.sheet c.new-bits.ensures.start c.in_ok-layout.layout _ _ c.in_ok-layout.ensures.read.value in search rules
 
 pub returns : goal.returns
 returns c =
     let w = c.in_ok-layout.ensures.within in
     let p = passed c.in_ok-layout.layout (sym c.in_ok-judge.ensures) in
-    let e = c.in_ok-judge.ensures ∙ decode_done _ _ _ c.new-bits.ensures.sheet c.new-bits.ensures.start c.in_ok-layout.layout _ _ c.in_ok-layout.ensures.value in
+    let e = c.in_ok-judge.ensures ∙ decode_done _ _ _ c.new-bits.ensures.sheet c.new-bits.ensures.start c.in_ok-layout.layout _ _ c.in_ok-layout.ensures.read.value in
     record {
       outcome = e;
       valid = record {

@@ -1,13 +1,16 @@
-use Rattle.std.proofs.Common.{sym, arith}
+use Rattle.std.proofs.Common.{◌≡◌, Bool, take, ◌∙◌, arith, rules}
+use borrow.Author.Tests.{tests}
+use Rattle.std.proofs.lemmas.Iterator.{YieldsList-from_slice}
+use Rattle.std.proofs.lemmas.Iterator.Search.{any_from_yields_List}
+use Rattle.basics.proofs.Scans.{any_rows}
 use Rattle.sheet.specs.Layouts.{route_in}
 use Rattle.sheet.specs.Rules.{alike}
-use Rattle.basics.proofs.Scans.{any_more, any_hit}
+use Rattle.sheet.specs.declared.layout.Route.{Route}
 use Rattle.sheet.proofs.rules.shares_lever.Goals as goal
 
-pub returns-then-are_alike : goal.returns-then-are_alike
-returns-then-are_alike c =
-    sym (any_hit (λ q. alike (route_in c.args.layout.now.routes q) (route_in c.args.layout.now.routes c.args.r)) c.args.r c.loop-q.q (omega arith) (sym c.if-are_alike.ensures))
-
-pub loop-q-preserved : goal.loop-q-preserved
-loop-q-preserved c =
-    any_more (λ q. alike (route_in c.args.layout.now.routes q) (route_in c.args.layout.now.routes c.args.r)) c.loop-q.q c.loop-q.invariant (sym c.if-are_alike.ensures)
+pub returns : goal.returns
+returns c =
+    let l = c.args.layout.now in
+    let p : Route → Bool = λ x. alike x (route_in l.routes c.args.r) in
+    any_from_yields_List p _ _ c.any.result c.any.ensures.ran (YieldsList-from_slice (take c.args.r l.routes) (cc)) (λ x b q k. search (rules, tests))
+    ∙ any_rows p _ l.routes c.args.r (omega arith)

@@ -1,6 +1,5 @@
-use Rattle.std.proofs.Common.{rules}
-use Rattle.basics.proofs.Adds.{rows_one, count-one}
+use Rattle.basics.proofs.Adds.{added_one}
 use Rattle.sheet.proofs.survey.note.Goals as goal
 
 pub returns : goal.returns
-returns c = search (rules, rows_one, count-one)
+returns c = added_one _ _ _ c.add.ensures.written c.add.ensures.filled c.add.ensures.lender

@@ -1,9 +1,6 @@
-use Rattle.std.proofs.Common.{◌≡◌, suc, ◌+◌, ◌-◌, ◌*◌, ◌/◌, [], ◌∷◌, ◌∙◌, arith}
-use Rattle.sheet.proofs.Puts.{going_more}
+use Rattle.std.proofs.Common.{◌+◌, ◌-◌, ◌*◌, ◌/◌}
+use Rattle.sheet.proofs.Puts.{bits_zero}
 use Rattle.sheet.proofs.writer.put_filling.Goals as goal
 
-pub loop-k-preserved : goal.loop-k-preserved
-loop-k-preserved c =
-    let end = (c.args.w.now.at + 7) / 8 * 8 in
-    let s : end - c.loop-k._k ≡ suc (end - (c.loop-k._k + 1)) = omega arith in
-    (going_more {xs = 0 ∷ []} (rw s at c.loop-k.invariant.0) c.push.ensures.wrote, omega arith, c.push.ensures.same ∙ c.loop-k.invariant.2)
+pub returns : goal.returns
+returns c = let z = bits_zero ((c.args.w.now.at + 7) / 8 * 8 - c.args.w.now.at) in rw z at c.put.ensures

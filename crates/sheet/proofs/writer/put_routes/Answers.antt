@@ -1,24 +1,32 @@
-use Rattle.std.proofs.Common.{ℕ, ◌+◌, ◌-◌, List, length, ap, ◌∙◌, arith}
-use Rattle.std.proofs.lemmas.List.{length-append}
+use Rattle.std.proofs.Common.{◌≡◌, ℕ, ◌+◌, ◌-◌, ◌<◌, List, [], length, take, get_or-take, sym, subst, arith}
 use Rattle.sheet.specs.Encode.{each, route_bits}
 use Rattle.sheet.specs.Layouts.{route_in}
+use Rattle.sheet.specs.Writing.{HasRoom, Wrote}
 use Rattle.sheet.specs.declared.layout.Layout.{Layout}
-use Rattle.sheet.proofs.Puts.{going_more, each_more}
+use Rattle.sheet.specs.declared.layout.Route.{Route}
+use Rattle.sheet.proofs.Puts.{going_more, each_more, room_more}
 use Rattle.sheet.proofs.writer.put_routes.Goals as goal
 
 abbrev item : Layout → ℕ → List ℕ
 item l r = route_bits l.counts (route_in l.routes r) r
 
-pub put_route-requires : goal.put_route-requires
-put_route-requires c =
-    let g = c.loop-k.invariant.0 in
-    let n = c.args.layout.now.counts.routes in
-    let k = c.loop-k.k in
-    let e = ap length (each_more (item c.args.layout.now) n k (omega arith)) in
-    let s = length-append (item c.args.layout.now k) (each (item c.args.layout.now) (n - (k + 1)) (k + 1)) in
-    omega arith
+-- a route of the first of them
+within : (l : Layout) (r : ℕ) → r < l.counts.routes → route_in (take l.counts.routes l.routes) r ≡ route_in l.routes r
+within l r h = rw get_or-take
 
-pub loop-k-preserved : goal.loop-k-preserved
-loop-k-preserved c =
-    let e = each_more (item c.args.layout.now) c.args.layout.now.counts.routes c.loop-k.k (omega arith) in
-    (going_more {xs = item c.args.layout.now c.loop-k.k} (rw e at c.loop-k.invariant.0) c.put_route.ensures.wrote, c.put_route.ensures.same ∙ c.loop-k.invariant.1)
+pub put_route-requires-clause-room : goal.put_route-requires-clause-room
+put_route-requires-clause-room c =
+    let l = c.args.layout.now in
+    let r = c.loop-r.r in
+    let n = l.counts.routes in
+    let e = each_more (item l) n r (omega arith) in
+    let P : Route → Type 0 = λ x. HasRoom c.loop-r.w (length (route_bits l.counts x r)) in
+    subst P (sym (within l r (omega arith))) (room_more (item l r) (each (item l) (n - (r + 1)) (r + 1)) (rw e at c.loop-r.invariant) c.requires.room)
+
+pub loop-r-preserved : goal.loop-r-preserved
+loop-r-preserved c =
+    let l = c.args.layout.now in
+    let r = c.loop-r.r in
+    let e = each_more (item l) l.counts.routes r (omega arith) in
+    let P : Route → Type 0 = λ x. Wrote c.loop-r.w c.put_route.new.w (route_bits l.counts x r) in
+    going_more {xs = item l r} (rw e at c.loop-r.invariant) (subst P (within l r (omega arith)) c.put_route.ensures)

@@ -17,13 +17,13 @@ put_sheet-requires c =
     let l = c.args.layout.now in
     let e = length_is_size l in
     let s = size_small l.counts c.requires.0 in
-    (refl, (omega (arith, length_sheet l), (omega arith, c.requires.0)))
+    record { start = refl; few = c.requires.0; room = omega (arith, length_sheet l); near = omega arith }
 
 pub returns : goal.returns
 returns c =
     let l = c.args.layout.now in
-    let w = sheet_written l refl (omega (arith, length_sheet l)) c.put_sheet.ensures.wrote in
-    let same = c.put_sheet.ensures.same in
+    let w = sheet_written l refl (omega (arith, length_sheet l)) c.put_sheet.ensures in
+    let same = c.put_sheet.ensures.lender in
     record {
       written = written_so l c.sheet_bytes-bytes.result c.args.out.now _ c.sheet_bytes-bytes.ensures.whole c.if-out-bytes.false c.if-layout-eq0.false (search (rules, w, same));
       back = reads_back l c.sheet_bytes-bytes.result c.args.out.now _ c.sheet_bytes-bytes.ensures.whole c.if-out-bytes.false c.if-layout-eq0.false (search (rules, w, same)) c.requires.1;

@@ -1,12 +1,12 @@
-use Rattle.std.proofs.Common.{sym, arith}
-use Rattle.sheet.specs.Rules.{broken, extent_of}
-use Rattle.basics.proofs.Scans.{lowest_more, lowest_hit}
+use Rattle.std.proofs.Common.{rules, sym, ◌∙◌}
+use borrow.Author.Tests.{tests}
+use Rattle.basics.proofs.Scans.{lowest_ranged}
+use Rattle.sheet.specs.Rules.{breaks, extent_of}
+use Rattle.sheet.proofs.Breaking.{lowest_there}
 use Rattle.sheet.proofs.rules.PlanRule.first_broken.Goals as goal
 
-pub returns-then-is_broken : goal.returns-then-is_broken
-returns-then-is_broken c =
-    sym (lowest_hit (broken c.args.layout.now c.args.self) (extent_of c.args.layout.now c.args.self) c.loop-k.k (omega arith) c.loop-k.invariant (sym c.if-is_broken.ensures))
-
-pub loop-k-preserved : goal.loop-k-preserved
-loop-k-preserved c =
-    lowest_more (broken c.args.layout.now c.args.self) c.loop-k.k c.loop-k.invariant (sym c.if-is_broken.ensures)
+pub returns : goal.returns
+returns c =
+    let l = c.args.layout.now in
+    lowest_ranged (breaks l c.args.self) (extent_of l c.args.self) _ _ c.find.result c.find.ensures.ran (cc) (λ x b q k. search (rules, tests))
+    ∙ lowest_there l c.args.self
