@@ -6,7 +6,7 @@ ghost use Rattle.text.specs.Input.{sheet_in};
 ghost use Rattle.text.specs.Lines.{first_line};
 
 use crate::hex::unhex;
-use crate::lines::first_line;
+use crate::lines::split_line;
 use std::alloc::{AllocError, Global};
 
 /// The most bytes that an input may have.
@@ -16,7 +16,8 @@ pub const LIMIT: usize = 65_536;
 pub fn first_line_bytes(heap: Global, text: &[u8]) -> Result<Option<Vec<u8>>, AllocError>
     ensures { IfOk result (λ o. option_map vec_items o ≡ bytes_of (first_line text.now)) }
 {
-    unhex(heap, first_line(text))
+    let (line, _) = split_line(text);
+    unhex(heap, line)
 }
 
 /// The sheet on the first line of an input; none where the line is not hex or the input is too long.
