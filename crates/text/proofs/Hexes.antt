@@ -1,6 +1,6 @@
 -- Hex digits, a byte at a time.
-use Rattle.std.proofs.Common.{◌≡◌, ℕ, ◌+◌, ◌-◌, ◌<◌, ◌≤◌, List, [], ◌∷◌, ◌++◌, length, get_or, drop, Some, None, Option, sym, refl, ap, ◌∙◌, arith}
-use Rattle.std.proofs.lemmas.List.{drop_more, drop_all, append_assoc}
+use Rattle.std.proofs.Common.{◌≡◌, ℕ, List, [], ◌∷◌, ◌++◌, length, get_or, Some, None, Option, sym, refl, ap, arith}
+use Rattle.std.proofs.lemmas.List.{append_assoc}
 use Rattle.text.specs.Hex.{byte_of, in_front, bytes_of}
 
 -- the bytes so far, and then what is left gives

@@ -42,6 +42,7 @@ impl<'a> Iterator for Lines<'a> {
 
     ghost remaining = { item_count (λ s. lines_of s.0.now) };
 
+    #[tactic(auto, using(crate::proofs::Newlines::split))]
     fn next(&mut self) -> Option<&'a [u8]> {
         if self.0.is_empty() {
             return None;
