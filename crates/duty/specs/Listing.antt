@@ -1,12 +1,13 @@
 -- What the program prints for an input.
-use Rattle.std.specs.Prelude.{ℕ, List, ◌++◌, Some, None, codes, decimal, Option}
+use Rattle.std.specs.Prelude.{ℕ, List, Some, None, codes, Option}
 use Rattle.sheet.specs.Decode.{Outcome, accepted, refused, decode}
+use Rattle.text.specs.Answers.{refused_line}
 use Rattle.text.specs.Input.{sheet_in}
 
 -- the line of a sheet with its fault's number and place, 0 and 0 where it is accepted
 abbrev pub outcome_line : Outcome → List ℕ
 outcome_line (accepted l) = codes "sheet 0 0\n"
-outcome_line (refused n p) = codes "sheet " ++ (decimal n ++ (codes " " ++ (decimal p ++ codes "\n")))
+outcome_line (refused n p) = refused_line n p
 
 abbrev pub sheet_line : List ℕ → List ℕ
 sheet_line bytes = outcome_line (decode bytes)

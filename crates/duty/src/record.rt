@@ -4,6 +4,7 @@ ghost use Rattle.duty.specs.Listing.{listing_of, sheet_line};
 
 use sheet::reader::read;
 use std::alloc::{AllocError, Global};
+use text::answers::refused_line;
 use text::input::sheet_bytes;
 
 // The line of a sheet: 0 and 0 where it is accepted, else its fault's number and place.
@@ -12,11 +13,7 @@ fn sheet_line(heap: Global, sheet: &[u8]) -> Result<String, AllocError>
 {
     match read(sheet) {
         Ok(_) => String::from_str(heap, "sheet 0 0\n"),
-        Err(fault) => {
-            let number = fault.flaw.number();
-            let place = fault.place;
-            format!(in heap; "sheet {number} {place}\n")
-        }
+        Err(fault) => refused_line(heap, fault.flaw.number(), fault.place),
     }
 }
 

@@ -1,5 +1,4 @@
 pub mod Reading
 pub mod Noting
-pub mod Printing
 pub mod Plans
 pub mod Loading

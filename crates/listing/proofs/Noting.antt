@@ -8,20 +8,7 @@ use Rattle.basics.proofs.Adds.{count_joined, count_none, count-one, rows_joined,
 use Rattle.basics.specs.Books.{add_answer, count_after, count_with, rows_after, rows_with}
 use Rattle.basics.specs.declared.book.BookFault.{BookFault}
 use Rattle.frame.specs.declared.entry.Entry.{Entry}
-use Rattle.text.proofs.Newlines.{split}
-use Rattle.text.specs.Lines.{after_first_line, first_line, length_of_line}
-use Rattle.listing.specs.Calls.{entry_of, entries_of, noting_answer}
-
--- the call on the first line, and those on the lines after it
-module _ (text line rest : List ℕ) (h : eqb (length text) 0 ≡ false) (l : line ≡ first_line text) (a : rest ≡ after_first_line text) where
-  pub entries_more : (y : Entry) → y ≡ entry_of line → entries_of text ≡ y ∷ entries_of rest
-  entries_more y c = let k = eqb-false (length text) 0 h in let s = ap (map entry_of) (split text (omega arith)) in cc
-
-  pub shorter : length rest < length text
-  shorter = let k = eqb-false (length text) 0 h in omega (arith, ap length a, length-drop (length_of_line text + 1) text)
-
-pub entries_none : (text : List ℕ) → eqb (length text) 0 ≡ true → entries_of text ≡ []
-entries_none text h = ap entries_of (nil_from_length text (eqb-true (length text) 0 h))
+use Rattle.listing.specs.Calls.{noting_answer}
 
 has_room_lem : (xs : List Entry) (n : ℕ) → Ok tt ≡ add_answer xs n → n < length xs
 has_room_lem xs n e = ⊎_elim (λ h. h) (λ h. let b = le-ltb n (length xs) h in let z : ◌≡◌ {A = ℕ} 0 1 = cc in absurd (omega arith)) (cases_lt n (length xs))

@@ -6,7 +6,7 @@ ghost use Rattle.listing.specs.Calls.{entry_of, entries_of, noting_answer, with_
 
 use basics::book::{Book, BookFault};
 use frame::entry::Entry;
-use text::lines::split_line;
+use text::lines::Lines;
 use text::numbers::number;
 
 // The number of a call.
@@ -42,11 +42,8 @@ pub(crate) fn note_calls(text: &[u8], book: &mut Book<'_, Entry>) -> Result<(), 
     ensures filled { book.new.count ≡ count_after book.old.rows.now book.old.count (entries_of text.now) }
     ensures lender { book.new.rows.ghost_name ≡ book.old.rows.ghost_name }
 {
-    let mut rest = text;
-    while !rest.is_empty() {
-        let (line, after) = split_line(rest);
+    for line in Lines::of(text) {
         book.add(entry_of(line))?;
-        rest = after;
     }
     Ok(())
 }

@@ -1,11 +1,11 @@
 //! The record of a duty, from the bytes of its input.
-ghost use Rattle.std.specs.Prelude.{◌≡◌, ◌<◌, ◌≤◌, length, take, IfOk, string_bytes};
+ghost use Rattle.std.specs.Prelude.{◌≡◌, ◌<◌, ◌≤◌, ◌++◌, codes, length, take, IfOk, string_bytes};
 ghost use Rattle.sheet.specs.Decode.{accepted, decode};
 ghost use Rattle.listing.specs.Calls.{entries_of, noting_answer};
-ghost use Rattle.listing.specs.Listing.{LawfulListing, closing_by, duty_lines, listing_of, refused_line, sheet_listing, worked};
+ghost use Rattle.listing.specs.Listing.{LawfulListing, closing_by, duty_lines, listing_of, sheet_listing, worked};
 
 use crate::calls::note_calls;
-use crate::lines::entry_lines;
+use crate::lines::EntryLines;
 use basics::book::{Book, BookFault};
 use block::wire_pair::WirePair;
 use board::answer::Answer;
@@ -14,6 +14,7 @@ use frame::frame::Frame;
 use sheet::plan::Plan;
 use sheet::reader::read;
 use std::alloc::{AllocError, Global};
+use text::answers::refused_line;
 use text::input::sheet_bytes;
 use text::lines::split_line;
 
@@ -48,7 +49,8 @@ fn closing(noted: Result<(), BookFault>) -> &'static str
     }
 }
 
-// A line for each call of a text that finds a row, worked on a plan, and one more where there are too many.
+// The lines of an accepted sheet: its own, one for each call of a text that finds a row, worked on the plan, and one more where there
+// are too many.
 fn lines_in(
     heap: Global,
     plan: Plan,
@@ -56,38 +58,20 @@ fn lines_in(
     rows: &mut [Entry],
 ) -> Result<String, AllocError>
     requires { 0 < plan.layout.counts.routes }
-    ensures { IfOk result (λ s. string_bytes s ≡ duty_lines (length rows.old) plan.layout (entries_of calls.now)) }
+    ensures { IfOk result (λ s. string_bytes s ≡ codes "sheet 0 0\n" ++ duty_lines (length rows.old) plan.layout (entries_of calls.now)) }
 {
     let (count, noted) = note_in(rows, calls);
     let entries = &mut rows[0..count];
     work(plan, entries);
-    let mut out = entry_lines(heap, entries)?;
-    out.push_str(closing(noted))?;
-    Ok(out)
-}
-
-fn duty_lines(heap: Global, plan: Plan, calls: &[u8]) -> Result<String, AllocError>
-    requires { 0 < plan.layout.counts.routes }
-    ensures { IfOk result (λ s. string_bytes s ≡ duty_lines 1024 plan.layout (entries_of calls.now)) }
-{
-    let mut rows = [Entry::new(b'?', 0); 1_024];
-    lines_in(heap, plan, calls, &mut rows)
-}
-
-fn refused_line(heap: Global, number: u8, place: usize) -> Result<String, AllocError>
-    ensures { IfOk result (λ s. string_bytes s ≡ refused_line number place) }
-{
-    format!(in heap; "sheet {number} {place}\n")
+    format!(in heap; "sheet 0 0\n{}{}", EntryLines(entries), closing(noted))
 }
 
 fn accepted_lines(heap: Global, plan: Plan, calls: &[u8]) -> Result<String, AllocError>
     requires { 0 < plan.layout.counts.routes }
     ensures { IfOk result (λ s. string_bytes s ≡ sheet_listing (accepted plan.layout) (entries_of calls.now)) }
 {
-    let mut out = String::from_str(heap, "sheet 0 0\n")?;
-    let lines = duty_lines(heap, plan, calls)?;
-    out.push_str(lines.as_str())?;
-    Ok(out)
+    let mut rows = [Entry::new(b'?', 0); 1_024];
+    lines_in(heap, plan, calls, &mut rows)
 }
 
 fn sheet_listing(heap: Global, sheet: &[u8], calls: &[u8]) -> Result<String, AllocError>

@@ -1,9 +1,9 @@
 -- Lines, line by line.
 use Rattle.std.proofs.Common.{◌≡◌, ℕ, suc, ◌+◌, ◌-◌, ◌<◌, ◌≤◌, Bool, true, false, cond, List, [], ◌∷◌, length, take, drop, Some, None, sym, refl, ap, ◌∙◌, arith}
 use Rattle.std.proofs.lemmas.List.{drop_all, take_all, take_rest}
-use Rattle.std.specs.List.{position, position_or_len}
+use Rattle.std.specs.List.{onto_first, position, position_or_len}
 use native.Mathlib.Numerals.{unary_clauses}
-use Rattle.text.specs.Lines.{after_first_line, first_line, in_first, is_newline, lines_of}
+use Rattle.text.specs.Lines.{after_first_line, first_line, is_newline, lines_of}
 
 found : (t : Bool) (n i : ℕ) → Some i ≡ cond t (Some n) None → i ≡ n
 found true n i e = cc
@@ -33,7 +33,7 @@ module _ (xs : List ℕ) where
   nothing e = let h = past_end e in sym (drop_all (position_or_len is_newline xs + 1) xs (omega arith))
 
 -- a byte more in front of a first line of n bytes
-one_more : (b n : ℕ) (cs : List ℕ) (ls : List (List ℕ)) → ls ≡ take n cs ∷ lines_of (drop (n + 1) cs) → in_first b ls ≡ take (1 + n) (b ∷ cs) ∷ lines_of (drop (1 + n + 1) (b ∷ cs))
+one_more : (b n : ℕ) (cs : List ℕ) (ls : List (List ℕ)) → ls ≡ take n cs ∷ lines_of (drop (n + 1) cs) → onto_first b ls ≡ take (1 + n) (b ∷ cs) ∷ lines_of (drop (1 + n + 1) (b ∷ cs))
 one_more b n cs ls e = let k : 1 + n ≡ suc n = omega arith in rw (e, k) (simp unary_clauses refl)
 
 abbrev Split : List ℕ → Type 0

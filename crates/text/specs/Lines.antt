@@ -1,6 +1,6 @@
 -- Lines of a text: a line ends with a newline or with the text.
 use Rattle.std.specs.Prelude.{ℕ, Bool, cond, List, [], ◌∷◌, ◌==◌}
-use Rattle.std.specs.List.{after_first, before_first}
+use Rattle.std.specs.List.{after_first, before_first, onto_first}
 
 -- 10 is a newline
 abbrev pub is_newline : ℕ → Bool
@@ -13,12 +13,7 @@ first_line bs = before_first is_newline bs
 abbrev pub after_first_line : List ℕ → List ℕ
 after_first_line bs = after_first is_newline bs
 
--- a byte in front of the first of some lines
-abbrev pub in_first : ℕ → List (List ℕ) → List (List ℕ)
-in_first b [] = (b ∷ []) ∷ []
-in_first b (line ∷ lines) = (b ∷ line) ∷ lines
-
 -- all lines; after a last newline there is none
 abbrev pub lines_of : List ℕ → List (List ℕ)
 lines_of [] = []
-lines_of (b ∷ bs) = cond (is_newline b) ([] ∷ lines_of bs) (in_first b (lines_of bs))
+lines_of (b ∷ bs) = cond (is_newline b) ([] ∷ lines_of bs) (onto_first b (lines_of bs))
