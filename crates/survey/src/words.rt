@@ -19,8 +19,7 @@ fn meaning(flaw: Flaw) -> &'static str
         Flaw::BadFilling =>
             "the sheet is over here: only zeros may follow, and only up to a whole byte",
         Flaw::SharedLever => "a lower route has the same lever and side",
-        Flaw::IdleLever => "no route uses it",
-        Flaw::IdleSignal => "no route uses it",
+        Flaw::IdleLever | Flaw::IdleSignal => "no route uses it",
         Flaw::BlankPlan => "a blank plan has no sheet",
         Flaw::NoRoom => "the buffer is too short",
     }
@@ -43,6 +42,7 @@ fn route_at(points: usize, routes: usize, bit: usize) -> Option<usize>
     requires { (points < 64) × (routes < 64) }
     ensures { result ≡ holding points routes bit routes 0 27 }
 {
+    // A loop, as the fields end where a sum stands by now: `scan` would change the same number in a closure.
     let mut end = 27;
     for r in 0..routes {
         end += 11 + 2 * points + (routes - (r + 1));
@@ -116,22 +116,16 @@ impl fmt::Display for Spot<'_> {
 
 /// The line of a report for a fault of a sheet.
 #[derive(Drop)]
-struct FaultLine<'a> {
-    sheet: &'a [u8],
-    fault: SheetFault,
-}
+struct FaultLine<'a>(Spot<'a>);
 
 impl fmt::Display for FaultLine<'_> {
-    ghost output = { λ line. Some (fault_line line.sheet.now line.fault) };
+    ghost output = { λ line. Some (fault_line line.0.sheet.now line.0.fault) };
 
     fn fmt<W: fmt::Write>(&self, f: &mut fmt::Formatter<W>) -> fmt::Result {
-        let number = self.fault.flaw.number();
-        let spot = Spot {
-            sheet: self.sheet,
-            fault: self.fault,
-        };
-        let meaning = meaning(self.fault.flaw);
-        writeln!(f, "fault {number} at {spot}: {meaning}")
+        let Spot { fault, .. } = &self.0;
+        let number = fault.flaw.number();
+        let meaning = meaning(fault.flaw);
+        writeln!(f, "fault {number} at {}: {meaning}", self.0)
     }
 }
 
@@ -147,11 +141,11 @@ impl fmt::Display for FaultLines<'_, '_> {
 
     fn fmt<W: fmt::Write>(&self, f: &mut fmt::Formatter<W>) -> fmt::Result {
         for fault in self.faults {
-            let line = FaultLine {
+            let spot = Spot {
                 sheet: self.sheet,
                 fault: *fault,
             };
-            write!(f, "{line}")?;
+            write!(f, "{}", FaultLine(spot))?;
         }
         Ok(())
     }
