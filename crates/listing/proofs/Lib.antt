@@ -1,4 +1,3 @@
-pub mod Reading
 pub mod Noting
 pub mod Plans
 pub mod Loading

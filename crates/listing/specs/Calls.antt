@@ -1,5 +1,6 @@
 -- The calls of a duty, from the lines of its input.
-use Rattle.std.specs.Prelude.{ℕ, ◌-◌, Bool, cond, ◌&&◌, List, [], ◌∷◌, map, length, Some, None, Ok, Err, Option, Result, ◌==◌, nat_le}
+use Rattle.std.specs.Prelude.{ℕ, ◌-◌, Bool, cond, ◌&&◌, List, [], ◌∷◌, map, length, None, Ok, Err, Option, Result, ◌==◌, nat_le}
+use Rattle.std.specs.Option.{option_map, unwrap_or}
 use Rattle.basics.specs.declared.book.BookFault.{BookFault}
 use Rattle.basics.specs.declared.book.BookFault.TheVariants.{Full}
 use Rattle.frame.specs.Entries.{unworked}
@@ -11,19 +12,15 @@ use Rattle.text.specs.Numerals.{numeral_of}
 abbrev pub is_letter : ℕ → Bool
 is_letter b = nat_le 97 b && nat_le b 122
 
--- what stands for a malformed line: '?', which is 63, and the number 0
-abbrev pub malformed_entry : Entry
-malformed_entry = unworked 63 0
+-- the call on a line, where there is one: a small letter, one space (32), and a number up to 255
+abbrev pub call_on : List ℕ → Option Entry
+call_on [] = None
+call_on (letter ∷ []) = None
+call_on (letter ∷ space ∷ digits) = cond (is_letter letter && space == 32) (option_map (unworked letter) (numeral_of 255 digits)) None
 
-abbrev pub with_number : ℕ → Option ℕ → Entry
-with_number letter (Some n) = unworked letter n
-with_number letter None = malformed_entry
-
--- a small letter, one space (32), and a number up to 255
+-- a malformed line is the call '?', which is 63, with the number 0
 abbrev pub entry_of : List ℕ → Entry
-entry_of [] = malformed_entry
-entry_of (letter ∷ []) = malformed_entry
-entry_of (letter ∷ space ∷ digits) = cond (is_letter letter && space == 32) (with_number letter (numeral_of 255 digits)) malformed_entry
+entry_of line = unwrap_or (call_on line) (unworked 63 0)
 
 -- a call for each line of a text
 abbrev pub entries_of : List ℕ → List Entry

@@ -1,38 +1,31 @@
 //! Call lines, read into entries.
 ghost use Rattle.std.specs.Prelude.{◌≡◌};
 ghost use Rattle.basics.specs.Books.{count_after, rows_after};
-ghost use Rattle.text.specs.Numerals.{numeral_of};
-ghost use Rattle.listing.specs.Calls.{entry_of, entries_of, noting_answer, with_number};
+ghost use Rattle.listing.specs.Calls.{call_on, entry_of, entries_of, noting_answer};
 
 use basics::book::{Book, BookFault};
 use frame::entry::Entry;
 use text::lines::Lines;
 use text::numbers::number;
 
-// The number of a call.
-fn call_number(digits: &[u8]) -> Option<usize>
-    ensures { result ≡ numeral_of 255 digits.now }
+// The call on a line, where there is one: a small letter, one space and a number up to 255.
+fn call_on(line: &[u8]) -> Option<Entry>
+    ensures { result ≡ call_on line.now }
 {
-    number(digits, 255)
-}
-
-fn numbered(letter: u8, number: Option<usize>) -> Entry
-    ensures { result ≡ with_number letter number }
-{
-    match number {
-        Some(number) => Entry::new(letter, number),
-        None => Entry::new(b'?', 0),
+    match line {
+        [letter @ b'a'..=b'z', b' ', digits @ ..] => Some(Entry::new(
+            *letter,
+            number(digits, 255)?,
+        )),
+        _ => None,
     }
 }
 
-// The call on a line: a small letter, one space and a number up to 255. A malformed line is the call `? 0`.
+// A malformed line is the call `? 0`.
 fn entry_of(line: &[u8]) -> Entry
     ensures { result ≡ entry_of line.now }
 {
-    match line {
-        [letter @ b'a'..=b'z', b' ', digits @ ..] => numbered(*letter, call_number(digits)),
-        _ => Entry::new(b'?', 0),
-    }
+    call_on(line).unwrap_or(Entry::new(b'?', 0))
 }
 
 /// Notes the calls on the lines of a text in a book, one for each line, until the book is full.

@@ -98,18 +98,10 @@ fn listed(heap: Global, input: &[u8]) -> Result<String, AllocError>
     }
 }
 
-// The law of a duty stands behind it.
-fn lawful_listing(heap: Global, input: &[u8]) -> Result<String, AllocError>
-    ensures text { IfOk result (λ s. string_bytes s ≡ listing_of input.now) }
-    ensures lawful { LawfulListing input.now }
-{
-    listed(heap, input)
-}
-
 /// What the program prints for an input; the law of a duty stands behind it.
 pub fn listing(heap: Global, input: &[u8]) -> Result<String, AllocError>
     ensures text { IfOk result (λ s. string_bytes s ≡ listing_of input.now) }
     ensures lawful { LawfulListing input.now }
 {
-    lawful_listing(heap, input)
+    listed(heap, input)
 }
