@@ -4,13 +4,8 @@ ghost use Rattle.duty.specs.Listing.{listing_of, sheet_line};
 
 use sheet::reader::read;
 use std::alloc::{AllocError, Global};
-use text::input::first_line_bytes;
-
-/// The most bytes that an input may have.
-const LIMIT: usize = 65_536;
-
-/// What is printed for an input that is too long or whose sheet is not hex.
-const MALFORMED: &str = "? 0 10 0\n";
+use text::answers::refused_line;
+use text::input::sheet_bytes;
 
 // The line of a sheet: 0 and 0 where it is accepted, else its fault's number and place.
 fn sheet_line(heap: Global, sheet: &[u8]) -> Result<String, AllocError>
@@ -18,11 +13,7 @@ fn sheet_line(heap: Global, sheet: &[u8]) -> Result<String, AllocError>
 {
     match read(sheet) {
         Ok(_) => String::from_str(heap, "sheet 0 0\n"),
-        Err(fault) => {
-            let number = fault.flaw.number();
-            let place = fault.place;
-            format!(in heap; "sheet {number} {place}\n")
-        }
+        Err(fault) => refused_line(heap, fault.flaw.number(), fault.place),
     }
 }
 
@@ -30,11 +21,8 @@ fn sheet_line(heap: Global, sheet: &[u8]) -> Result<String, AllocError>
 pub(crate) fn listing(heap: Global, input: &[u8]) -> Result<String, AllocError>
     ensures { IfOk result (λ s. string_bytes s ≡ listing_of input.now) }
 {
-    if input.len() > LIMIT {
-        return String::from_str(heap, MALFORMED);
-    }
-    match first_line_bytes(heap, input)? {
+    match sheet_bytes(heap, input)? {
         Some(sheet) => sheet_line(heap, sheet.as_slice()),
-        None => String::from_str(heap, MALFORMED),
+        None => String::from_str(heap, "? 0 10 0\n"),
     }
 }

@@ -3,13 +3,10 @@
 
 use listing::record::listing;
 use std::io;
-use std::io::Read;
-use text::input::LIMIT;
+use text::input::read_input;
 
 fn main(rt: HostRuntime) -> io::Result<()> {
     let heap = rt.alloc();
-    let mut input = Vec::new(heap);
-    // One byte past the limit shows that an input is too long.
-    rt.stdin().take(LIMIT as u64 + 1).read_to_end(&mut input)?;
+    let input = read_input(heap, rt.stdin())?;
     rt.print(listing(heap, input.as_slice())?)
 }

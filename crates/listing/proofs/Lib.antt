@@ -1,5 +1,3 @@
-pub mod Reading
-pub mod Noting
-pub mod Printing
 pub mod Plans
 pub mod Loading
+pub mod Counting

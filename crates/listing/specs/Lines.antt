@@ -2,6 +2,7 @@
 use Rattle.std.specs.Prelude.{ℕ, cond, List, [], ◌∷◌, ◌++◌, codes, decimal}
 use Rattle.frame.specs.declared.entry.Entry.{Entry}
 use Rattle.listing.specs.Calls.{is_letter}
+use Rattle.std.specs.List.{flat_map}
 
 -- a small letter as it is, anything else as '?'
 abbrev pub shown_letter : ℕ → ℕ
@@ -16,5 +17,4 @@ abbrev pub entry_line : Entry → List ℕ
 entry_line e = line_text (shown_letter e.letter) e.number e.answer e.place
 
 abbrev pub entry_lines : List Entry → List ℕ
-entry_lines [] = []
-entry_lines (e ∷ es) = entry_line e ++ entry_lines es
+entry_lines es = flat_map entry_line es

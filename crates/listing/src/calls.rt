@@ -1,52 +1,39 @@
 //! Call lines, read into entries.
-ghost use Rattle.std.specs.Prelude.{◌≡◌};
-ghost use Rattle.basics.specs.Books.{count_after, rows_after};
-ghost use Rattle.text.specs.Numerals.{numeral_of};
-ghost use Rattle.listing.specs.Calls.{entry_of, entries_of, noting_answer, with_number};
+ghost use Rattle.std.specs.Prelude.{◌≡◌, IfOk, length, nat_le, take, vec_items};
+ghost use Rattle.listing.specs.Calls.{call_on, entry_of, entries_of};
 
-use basics::book::{Book, BookFault};
 use frame::entry::Entry;
-use text::lines::split_line;
+use std::alloc::{AllocError, Global};
+use text::lines::Lines;
 use text::numbers::number;
 
-// The number of a call.
-fn call_number(digits: &[u8]) -> Option<usize>
-    ensures { result ≡ numeral_of 255 digits.now }
+// The call on a line, where there is one: a small letter, one space and a number up to 255.
+fn call_on(line: &[u8]) -> Option<Entry>
+    ensures { result ≡ call_on line.now }
 {
-    number(digits, 255)
+    let [letter @ b'a'..=b'z', b' ', digits @ ..] = line else {
+        return None;
+    };
+    Some(Entry::new(*letter, number(digits, 255)?))
 }
 
-fn numbered(letter: u8, number: Option<usize>) -> Entry
-    ensures { result ≡ with_number letter number }
-{
-    match number {
-        Some(number) => Entry::new(letter, number),
-        None => Entry::new(b'?', 0),
-    }
-}
-
-// The call on a line: a small letter, one space and a number up to 255. A malformed line is the call `? 0`.
+// A malformed line is the call `? 0`.
 fn entry_of(line: &[u8]) -> Entry
     ensures { result ≡ entry_of line.now }
 {
-    match line {
-        [letter @ b'a'..=b'z', b' ', digits @ ..] => numbered(*letter, call_number(digits)),
-        _ => Entry::new(b'?', 0),
-    }
+    call_on(line).unwrap_or(Entry::new(b'?', 0))
 }
 
-/// Notes the calls on the lines of a text in a book, one for each line, until the book is full.
-pub(crate) fn note_calls(text: &[u8], book: &mut Book<'_, Entry>) -> Result<(), BookFault>
-    ensures answer { result ≡ noting_answer book.old.rows.now book.old.count (entries_of text.now) }
-    ensures written { book.new.rows.now ≡ rows_after book.old.rows.now book.old.count (entries_of text.now) }
-    ensures filled { book.new.count ≡ count_after book.old.rows.now book.old.count (entries_of text.now) }
-    ensures lender { book.new.rows.ghost_name ≡ book.old.rows.ghost_name }
+/// The calls on the first lines of a text, so many at most.
+pub(crate) fn first_calls(heap: Global, text: &[u8], most: usize) -> Result<Vec<Entry>, AllocError>
+    ensures { IfOk result (λ calls. vec_items calls ≡ take most (entries_of text.now)) }
 {
-    let mut rest = text;
-    while !rest.is_empty() {
-        let (line, after) = split_line(rest);
-        book.add(entry_of(line))?;
-        rest = after;
-    }
-    Ok(())
+    Lines::of(text).map(entry_of).take(most).collect(heap)
+}
+
+/// Whether a text has no more calls than so many.
+pub(crate) fn has_at_most(text: &[u8], most: usize) -> bool
+    ensures { result ≡ nat_le (length (entries_of text.now)) most }
+{
+    Lines::of(text).nth(most).is_none()
 }

@@ -1,9 +1,9 @@
 //! Entries, printed as lines.
-ghost use Rattle.std.specs.Prelude.{◌≡◌, ◌<◌, IfOk, string_bytes};
-ghost use Rattle.listing.specs.Lines.{entry_line, entry_lines, line_text, shown_letter};
+ghost use Rattle.std.specs.Prelude.{◌≡◌, ◌<◌, Some};
+ghost use Rattle.listing.specs.Lines.{entry_line, entry_lines, shown_letter};
 
 use frame::entry::Entry;
-use std::alloc::{AllocError, Global};
+use std::fmt;
 
 // A small letter as it is, anything else as `?`.
 fn shown_letter(letter: u8) -> char
@@ -17,34 +17,33 @@ fn shown_letter(letter: u8) -> char
     }
 }
 
-fn line_text(
-    heap: Global,
-    letter: char,
-    number: usize,
-    answer: u8,
-    place: usize,
-) -> Result<String, AllocError>
-    requires { letter < 128 }
-    ensures { IfOk result (λ s. string_bytes s ≡ line_text letter number answer place) }
-{
-    format!(in heap; "{letter} {number} {answer} {place}\n")
-}
+/// An entry as a line: letter, number, answer and place.
+#[derive(Drop)]
+struct EntryLine<'a>(&'a Entry);
 
-fn entry_line(heap: Global, entry: &Entry) -> Result<String, AllocError>
-    ensures { IfOk result (λ s. string_bytes s ≡ entry_line entry.now) }
-{
-    let letter = shown_letter(entry.letter);
-    line_text(heap, letter, entry.number, entry.answer, entry.place)
-}
+impl fmt::Display for EntryLine<'_> {
+    ghost output = { λ line. Some (entry_line line.0.now) };
 
-/// A line for each entry: letter, number, answer and place.
-pub(crate) fn entry_lines(heap: Global, entries: &[Entry]) -> Result<String, AllocError>
-    ensures { IfOk result (λ s. string_bytes s ≡ entry_lines entries.now) }
-{
-    let mut out = String::new(heap);
-    for entry in entries {
-        let line = entry_line(heap, entry)?;
-        out.push_str(line.as_str())?;
+    fn fmt<W: fmt::Write>(&self, f: &mut fmt::Formatter<W>) -> fmt::Result {
+        let letter = shown_letter(self.0.letter);
+        let number = self.0.number;
+        let answer = self.0.answer;
+        let place = self.0.place;
+        writeln!(f, "{letter} {number} {answer} {place}")
     }
-    Ok(out)
+}
+
+/// A line for each entry.
+#[derive(Drop)]
+pub(crate) struct EntryLines<'a>(pub &'a [Entry]);
+
+impl fmt::Display for EntryLines<'_> {
+    ghost output = { λ lines. Some (entry_lines lines.0.now) };
+
+    fn fmt<W: fmt::Write>(&self, f: &mut fmt::Formatter<W>) -> fmt::Result {
+        for entry in self.0 {
+            write!(f, "{}", EntryLine(entry))?;
+        }
+        Ok(())
+    }
 }

@@ -1,5 +1,6 @@
 -- A fault in plain words.
 use Rattle.std.specs.Prelude.{ℕ, zero, suc, ◌+◌, ◌-◌, ◌*◌, ◌/◌, ◌%◌, cond, List, [], ◌∷◌, ◌++◌, Some, None, codes, decimal, Option, nat_lt}
+use Rattle.std.specs.List.{flat_map}
 use Rattle.sheet.specs.Faults.{number_of}
 use Rattle.sheet.specs.declared.fault.SheetFault.{SheetFault}
 use Rattle.sheet.specs.declared.fault.Flaw.{Flaw}
@@ -76,3 +77,7 @@ line_of n spot meaning = codes "fault " ++ (decimal n ++ (codes " at " ++ (spot 
 
 abbrev pub fault_line : List ℕ → SheetFault → List ℕ
 fault_line s f = line_of (number_of f.flaw) (spot_of s f) (meaning_of f.flaw)
+
+-- a line for each fault
+abbrev pub fault_lines : List ℕ → List SheetFault → List ℕ
+fault_lines s fs = flat_map (fault_line s) fs

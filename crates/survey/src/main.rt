@@ -6,12 +6,10 @@ mod words;
 
 use report::report;
 use std::io;
-use std::io::Read;
+use text::input::read_input;
 
 fn main(rt: HostRuntime) -> io::Result<()> {
     let heap = rt.alloc();
-    let mut input = Vec::new(heap);
-    // One byte past the limit shows that an input is too long.
-    rt.stdin().take(65_537).read_to_end(&mut input)?;
+    let input = read_input(heap, rt.stdin())?;
     rt.print(report(heap, input.as_slice())?)
 }

@@ -1,19 +1,17 @@
 //! The report of a sheet, from the bytes of the input.
-ghost use Rattle.std.specs.Prelude.{◌≡◌, length, IfOk, string_bytes};
+ghost use Rattle.std.specs.Prelude.{◌≡◌, ◌++◌, IfOk, string_bytes};
 ghost use Rattle.sheet.specs.Survey.{faults_of};
-ghost use Rattle.survey.specs.Report.{fault_lines, fault_report, good_line, report_of, sheet_report, total_line};
+ghost use Rattle.survey.specs.Words.{fault_lines};
+ghost use Rattle.survey.specs.Report.{fault_report, good_line, report_of, sheet_report, total_line};
 
-use crate::words::fault_line;
+use crate::words::FaultLines;
 use basics::book::Book;
 use sheet::fault::{Flaw, SheetFault};
 use sheet::layout::Counts;
 use sheet::reader::read;
 use sheet::survey::survey;
 use std::alloc::{AllocError, Global};
-use text::input::first_line_bytes;
-
-/// The most bytes that an input may have.
-const LIMIT: usize = 65_536;
+use text::input::sheet_bytes;
 
 const NO_SHEET: &str =
     "this is no sheet: lower-case hex on the first line, two digits a byte, and at most 65536 bytes in all\n";
@@ -24,33 +22,26 @@ const UNUSED: SheetFault = SheetFault {
     place: 0,
 };
 
+#[tactic(auto, unfolding(crate::specs::Report::good_line))]
 fn good_line(heap: Global, counts: Counts) -> Result<String, AllocError>
     ensures { IfOk result (λ s. string_bytes s ≡ good_line counts) }
 {
-    let points = counts.points;
-    let signals = counts.signals;
-    let levers = counts.levers;
-    let routes = counts.routes;
     format!(in heap;
-        "the sheet is good: points {points}, signals {signals}, route levers {levers}, routes {routes}\n"
+        "the sheet is good: points {}, signals {}, route levers {}, routes {}\n",
+        counts.points, counts.signals, counts.levers, counts.routes
     )
 }
 
-fn fault_lines(heap: Global, sheet: &[u8], faults: &[SheetFault]) -> Result<String, AllocError>
-    ensures { IfOk result (λ s. string_bytes s ≡ fault_lines sheet.now faults.now) }
+// How many faults a sheet has, and the lines of those that were noted.
+fn faults_report(
+    heap: Global,
+    total: usize,
+    sheet: &[u8],
+    faults: &[SheetFault],
+) -> Result<String, AllocError>
+    ensures { IfOk result (λ s. string_bytes s ≡ total_line total ++ fault_lines sheet.now faults.now) }
 {
-    let mut out = String::new(heap);
-    for fault in faults {
-        let line = fault_line(heap, sheet, *fault)?;
-        out.push_str(line.as_str())?;
-    }
-    Ok(out)
-}
-
-fn total_line(heap: Global, total: usize) -> Result<String, AllocError>
-    ensures { IfOk result (λ s. string_bytes s ≡ total_line total) }
-{
-    format!(in heap; "faults: {total}\n")
+    format!(in heap; "faults: {total}\n{}", FaultLines { sheet, faults })
 }
 
 fn fault_report(heap: Global, sheet: &[u8]) -> Result<String, AllocError>
@@ -59,10 +50,7 @@ fn fault_report(heap: Global, sheet: &[u8]) -> Result<String, AllocError>
     let mut rows = [UNUSED; 96];
     let mut book = Book::new(&mut rows);
     let total = survey(sheet, &mut book);
-    let mut out = total_line(heap, total)?;
-    let lines = fault_lines(heap, sheet, book.entries())?;
-    out.push_str(lines.as_str())?;
-    Ok(out)
+    faults_report(heap, total, sheet, book.entries())
 }
 
 fn sheet_report(heap: Global, sheet: &[u8]) -> Result<String, AllocError>
@@ -78,10 +66,7 @@ fn sheet_report(heap: Global, sheet: &[u8]) -> Result<String, AllocError>
 pub(crate) fn report(heap: Global, input: &[u8]) -> Result<String, AllocError>
     ensures { IfOk result (λ s. string_bytes s ≡ report_of input.now) }
 {
-    if input.len() > LIMIT {
-        return String::from_str(heap, NO_SHEET);
-    }
-    match first_line_bytes(heap, input)? {
+    match sheet_bytes(heap, input)? {
         Some(sheet) => sheet_report(heap, sheet.as_slice()),
         None => String::from_str(heap, NO_SHEET),
     }

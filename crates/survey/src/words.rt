@@ -1,10 +1,10 @@
 //! A fault in plain words.
-ghost use Rattle.std.specs.Prelude.{◌≡◌, ◌<◌, IfOk, string_bytes};
+ghost use Rattle.std.specs.Prelude.{◌≡◌, ◌<◌, Some};
 ghost use Rattle.std.specs.Option.{option_map};
-ghost use Rattle.survey.specs.Words.{bit_spot, bit_words, counted_by, fault_line, holding, line_of, meaning_of, part_of, route_holding, spot_of};
+ghost use Rattle.survey.specs.Words.{counted_by, fault_line, fault_lines, holding, meaning_of, part_of, route_holding, spot_of};
 
 use sheet::fault::{Flaw, SheetFault};
-use std::alloc::{AllocError, Global};
+use std::fmt;
 
 fn meaning(flaw: Flaw) -> &'static str
     ensures { result.now ≡ meaning_of flaw }
@@ -19,8 +19,7 @@ fn meaning(flaw: Flaw) -> &'static str
         Flaw::BadFilling =>
             "the sheet is over here: only zeros may follow, and only up to a whole byte",
         Flaw::SharedLever => "a lower route has the same lever and side",
-        Flaw::IdleLever => "no route uses it",
-        Flaw::IdleSignal => "no route uses it",
+        Flaw::IdleLever | Flaw::IdleSignal => "no route uses it",
         Flaw::BlankPlan => "a blank plan has no sheet",
         Flaw::NoRoom => "the buffer is too short",
     }
@@ -43,6 +42,7 @@ fn route_at(points: usize, routes: usize, bit: usize) -> Option<usize>
     requires { (points < 64) × (routes < 64) }
     ensures { result ≡ holding points routes bit routes 0 27 }
 {
+    // A loop, as the fields end where a sum stands by now: `scan` would change the same number in a closure.
     let mut end = 27;
     for r in 0..routes {
         end += 11 + 2 * points + (routes - (r + 1));
@@ -64,64 +64,89 @@ fn route_holding(sheet: &[u8], bit: usize) -> Option<usize>
     route_at(points, routes, bit)
 }
 
-// The part of a sheet that a bit stands in.
-fn part(heap: Global, sheet: &[u8], bit: usize) -> Result<String, AllocError>
-    ensures { IfOk result (λ s. string_bytes s ≡ part_of sheet.now bit) }
-{
-    if bit < 27 {
-        return String::from_str(heap, "in the head");
-    }
-    match route_holding(sheet, bit) {
-        Some(route) => format!(in heap; "in route {route}"),
-        None => String::from_str(heap, "after the last route"),
-    }
+/// A bit of a sheet, shown as the part of the sheet that it stands in.
+#[derive(Drop)]
+struct Part<'a> {
+    sheet: &'a [u8],
+    bit: usize,
 }
 
-fn bit_words(heap: Global, place: usize, part: &str) -> Result<String, AllocError>
-    ensures { IfOk result (λ s. string_bytes s ≡ bit_words place part.now) }
-{
-    let byte = place / 8;
-    let bit = place % 8;
-    format!(in heap; "bit {place} (byte {byte}, bit {bit} from its top, {part})")
-}
+impl fmt::Display for Part<'_> {
+    ghost output = { λ part. Some (part_of part.sheet.now part.bit) };
 
-fn bit_spot(heap: Global, sheet: &[u8], place: usize) -> Result<String, AllocError>
-    ensures { IfOk result (λ s. string_bytes s ≡ bit_spot sheet.now place) }
-{
-    let part = part(heap, sheet, place)?;
-    bit_words(heap, place, part.as_str())
-}
-
-// Where a fault stands: the route, lever or signal, or a bit with its byte and its part of the sheet.
-fn spot(heap: Global, sheet: &[u8], fault: SheetFault) -> Result<String, AllocError>
-    ensures { IfOk result (λ s. string_bytes s ≡ spot_of sheet.now fault) }
-{
-    let place = fault.place;
-    match counted(fault.flaw) {
-        Some(thing) => format!(in heap; "{thing} {place}"),
-        None => bit_spot(heap, sheet, place),
+    #[tactic(auto, unfolding(crate::specs::Words::part_of))]
+    fn fmt<W: fmt::Write>(&self, f: &mut fmt::Formatter<W>) -> fmt::Result {
+        if self.bit < 27 {
+            return write!(f, "in the head");
+        }
+        match route_holding(self.sheet, self.bit) {
+            Some(route) => write!(f, "in route {route}"),
+            None => write!(f, "after the last route"),
+        }
     }
 }
 
-fn joined(heap: Global, number: u8, spot: &str, meaning: &str) -> Result<String, AllocError>
-    ensures { IfOk result (λ s. string_bytes s ≡ line_of number spot.now meaning.now) }
-{
-    format!(in heap; "fault {number} at {spot}: {meaning}\n")
+/// Where a fault stands: the route, lever or signal, or a bit with its byte and its part of the sheet.
+#[derive(Drop)]
+struct Spot<'a> {
+    sheet: &'a [u8],
+    fault: SheetFault,
+}
+
+impl fmt::Display for Spot<'_> {
+    ghost output = { λ spot. Some (spot_of spot.sheet.now spot.fault) };
+
+    fn fmt<W: fmt::Write>(&self, f: &mut fmt::Formatter<W>) -> fmt::Result {
+        let place = self.fault.place;
+        if let Some(thing) = counted(self.fault.flaw) {
+            return write!(f, "{thing} {place}");
+        }
+        let byte = place / 8;
+        let bit = place % 8;
+        let part = Part {
+            sheet: self.sheet,
+            bit: place,
+        };
+        write!(
+            f,
+            "bit {place} (byte {byte}, bit {bit} from its top, {part})"
+        )
+    }
 }
 
 /// The line of a report for a fault of a sheet.
-pub(crate) fn fault_line(
-    heap: Global,
-    sheet: &[u8],
-    fault: SheetFault,
-) -> Result<String, AllocError>
-    ensures { IfOk result (λ s. string_bytes s ≡ fault_line sheet.now fault) }
-{
-    let spot = spot(heap, sheet, fault)?;
-    joined(
-        heap,
-        fault.flaw.number(),
-        spot.as_str(),
-        meaning(fault.flaw),
-    )
+#[derive(Drop)]
+struct FaultLine<'a>(Spot<'a>);
+
+impl fmt::Display for FaultLine<'_> {
+    ghost output = { λ line. Some (fault_line line.0.sheet.now line.0.fault) };
+
+    fn fmt<W: fmt::Write>(&self, f: &mut fmt::Formatter<W>) -> fmt::Result {
+        let Spot { fault, .. } = &self.0;
+        let number = fault.flaw.number();
+        let meaning = meaning(fault.flaw);
+        writeln!(f, "fault {number} at {}: {meaning}", self.0)
+    }
+}
+
+/// A line for each fault of a sheet.
+#[derive(Drop)]
+pub(crate) struct FaultLines<'s, 'f> {
+    pub sheet: &'s [u8],
+    pub faults: &'f [SheetFault],
+}
+
+impl fmt::Display for FaultLines<'_, '_> {
+    ghost output = { λ lines. Some (fault_lines lines.sheet.now lines.faults.now) };
+
+    fn fmt<W: fmt::Write>(&self, f: &mut fmt::Formatter<W>) -> fmt::Result {
+        for fault in self.faults {
+            let spot = Spot {
+                sheet: self.sheet,
+                fault: *fault,
+            };
+            write!(f, "{}", FaultLine(spot))?;
+        }
+        Ok(())
+    }
 }

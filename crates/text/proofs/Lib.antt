@@ -1,3 +1,4 @@
 pub mod Hexes
 pub mod Newlines
 pub mod Digits
+pub mod Inputs

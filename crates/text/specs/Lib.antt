@@ -1,5 +1,6 @@
--- In reading order: lines of a text, hex, numbers in decimal, and the sheet of an input.
+-- In reading order: lines of a text, hex, numbers in decimal, the sheet of an input, and lines that answer.
 pub mod Lines
 pub mod Hex
 pub mod Numerals
 pub mod Input
+pub mod Answers

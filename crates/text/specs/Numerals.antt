@@ -1,18 +1,17 @@
 -- A number in decimal, without leading zeros.
 use Rattle.std.specs.Prelude.{ℕ, ◌+◌, ◌-◌, ◌*◌, Bool, true, false, cond, not, ◌&&◌, List, [], ◌∷◌, Some, None, Option, ◌==◌, nat_le}
+use Rattle.std.specs.List.{fold, list_all}
 
 -- 48 is '0', 57 '9'
 abbrev pub is_digit : ℕ → Bool
 is_digit b = nat_le 48 b && nat_le b 57
 
 abbrev pub all_digits : List ℕ → Bool
-all_digits [] = true
-all_digits (b ∷ bs) = is_digit b && all_digits bs
+all_digits bs = list_all is_digit bs
 
 -- what digits spell behind a number
 abbrev pub spelled : ℕ → List ℕ → ℕ
-spelled n [] = n
-spelled n (b ∷ bs) = spelled (n * 10 + (b - 48)) bs
+spelled n bs = fold (λ n b. n * 10 + (b - 48)) n bs
 
 -- the number that digits spell, up to the most that is allowed
 abbrev pub spelled_to : ℕ → List ℕ → Option ℕ

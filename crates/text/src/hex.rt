@@ -19,10 +19,7 @@ fn digit(b: u8) -> Option<u8>
 fn byte(high: u8, low: u8) -> Option<u8>
     ensures { result ≡ byte_of high low }
 {
-    match (digit(high), digit(low)) {
-        (Some(h), Some(l)) => Some(h * 16 + l),
-        _ => None,
-    }
+    Some(digit(high)? * 16 + digit(low)?)
 }
 
 // The bytes that a text spells, or none where it is not hex.
@@ -30,16 +27,14 @@ pub(crate) fn unhex(heap: Global, text: &[u8]) -> Result<Option<Vec<u8>>, AllocE
     ensures { IfOk result (λ o. option_map vec_items o ≡ bytes_of text.now) }
 {
     let mut bytes = Vec::new(heap);
-    let mut at = 0;
-    while at < text.len() {
-        if text.len() - at < 2 {
+    for pair in text.chunks(2) {
+        let [high, low] = pair else {
             return Ok(None);
-        }
-        let Some(byte) = byte(text[at], text[at + 1]) else {
+        };
+        let Some(byte) = byte(*high, *low) else {
             return Ok(None);
         };
         bytes.push(byte)?;
-        at += 2;
     }
     Ok(Some(bytes))
 }

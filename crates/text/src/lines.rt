@@ -1,43 +1,54 @@
 //! Lines of a text.
-ghost use Rattle.std.specs.Prelude.{◌≡◌, ◌+◌, ◌≤◌, length, drop};
-ghost use Rattle.text.specs.Lines.{after_first_line, first_line, length_of_line};
+ghost use Rattle.std.specs.Prelude.{◌≡◌};
+ghost use Rattle.std.specs.List.{position};
+ghost use Rattle.std.specs.Iterator.{YieldsFirstBy, item_count};
+ghost use Rattle.text.specs.Lines.{after_first_line, first_line, is_newline, lines_of};
 
-// Where the line that begins at `from` ends: at a newline, or with the text.
-fn line_end(text: &[u8], from: usize) -> usize
-    ensures value { result ≡ from + length_of_line (drop from text.now) }
-    ensures within { from ≤ length text.now → result ≤ length text.now }
+fn newline(text: &[u8]) -> Option<usize>
+    ensures { result ≡ position is_newline text.now }
 {
-    let mut at = from;
-    while at < text.len() && text[at] != b'\n' {
-        at += 1;
-    }
-    at
-}
-
-// The text up to its first newline.
-pub(crate) fn first_line(text: &[u8]) -> &[u8]
-    ensures { result.now ≡ first_line text.now }
-{
-    let end = line_end(text, 0);
-    &text[0..end]
-}
-
-// What stands behind a place and the byte there.
-fn behind(text: &[u8], place: usize) -> &[u8]
-    ensures { result.now ≡ drop (place + 1) text.now }
-{
-    if place < text.len() {
-        &text[place + 1..]
-    } else {
-        &[]
-    }
+    text.iter().position(|b| *b == b'\n')
 }
 
 /// The first line of a text, and what follows it and its newline.
+#[tactic(auto, using(crate::proofs::Newlines::at_newline, crate::proofs::Newlines::past_newline, crate::proofs::Newlines::whole, crate::proofs::Newlines::nothing))]
 pub fn split_line(text: &[u8]) -> (&[u8], &[u8])
     ensures line { result.0.now ≡ first_line text.now }
     ensures rest { result.1.now ≡ after_first_line text.now }
 {
-    let end = line_end(text, 0);
-    (&text[0..end], behind(text, end))
+    match newline(text) {
+        Some(end) => (&text[..end], &text[end + 1..]),
+        None => (text, &[]),
+    }
+}
+
+/// What is left of a text, a line at a time.
+#[derive(Drop)]
+pub struct Lines<'a>(&'a [u8]);
+
+impl<'a> Lines<'a> {
+    /// The lines of a text in their order; after a last newline there is none.
+    pub fn of(text: &'a [u8]) -> Lines<'a>
+        ensures { lines_of result.0.now ≡ lines_of text.now }
+    {
+        Lines(text)
+    }
+}
+
+impl<'a> Iterator for Lines<'a> {
+    type Item = &'a [u8];
+
+    ghost next_gives = { YieldsFirstBy (λ line. line.now) (λ s. lines_of s.0.now) };
+
+    ghost remaining = { item_count (λ s. lines_of s.0.now) };
+
+    #[tactic(auto, using(crate::proofs::Newlines::split))]
+    fn next(&mut self) -> Option<&'a [u8]> {
+        if self.0.is_empty() {
+            return None;
+        }
+        let (line, rest) = split_line(self.0);
+        self.0 = rest;
+        Some(line)
+    }
 }

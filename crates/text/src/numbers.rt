@@ -24,8 +24,8 @@ fn spelled(text: &[u8], most: u32) -> Option<usize>
 pub fn number(text: &[u8], most: u32) -> Option<usize>
     ensures { result ≡ numeral_of most text.now }
 {
-    if text.is_empty() || text[0] == b'0' && text.len() > 1 {
-        return None;
+    match text {
+        [] | [b'0', _, ..] => None,
+        _ => spelled(text, most),
     }
-    spelled(text, most)
 }

@@ -1,24 +1,12 @@
-use Rattle.std.proofs.Common.{◌+◌, ◌≤◌, length, Some, vec_items, sym, ap, ◌∙◌, arith}
-use Rattle.std.proofs.lemmas.List.{at_drop_all, append-nil}
-use Rattle.text.specs.Hex.{bytes_of}
-use Rattle.text.proofs.Hexes.{after, odd, pair_more, pair_bad}
+use Rattle.std.proofs.Common.{◌<◌, ◌≡◌, length, vec_items, ◌∙◌, arith}
+use Rattle.std.specs.Slice.Iter.{chunks_size}
+use Rattle.text.proofs.Hexes.{pair_more}
 use Rattle.text.proofs.hex.unhex.Goals as goal
 
-pub returns-then-text-at-lt2 : goal.returns-then-text-at-lt2
-returns-then-text-at-lt2 c =
-    ap (after (vec_items c.loop-at.bytes)) (sym (odd c.args.text.now c.loop-at.at c.loop-at-test.true c.if-text-at-lt2.true)) ∙ c.loop-at.invariant.1
-
-pub returns-in_default : goal.returns-in_default
-returns-in_default c =
-    let k : c.loop-at.at + 2 ≤ length c.args.text.now = omega arith in
-    pair_bad (vec_items c.loop-at.bytes) c.args.text.now c.loop-at.at k c.in_default.ensures ∙ c.loop-at.invariant.1
-
-pub loop-at-preserved : goal.loop-at-preserved
-loop-at-preserved c =
-    let k : c.loop-at.at + 2 ≤ length c.args.text.now = omega arith in
-    (k, pair_more (vec_items c.loop-at.bytes) c.args.text.now c.loop-at.at k c.in-Some.byte _ c.in-Some.ensures c.in_ok-push.ensures.items ∙ c.loop-at.invariant.1)
-
-pub returns : goal.returns
-returns c =
-    ap (λ bs. Some bs) (sym (append-nil (vec_items c.loop-at.bytes)))
-    ∙ (sym (at_drop_all (λ ys. after (vec_items c.loop-at.bytes) (bytes_of ys)) c.args.text.now c.loop-at.at c.loop-at-test.false) ∙ c.loop-at.invariant.1)
+pub loop-pair-preserved : goal.loop-pair-preserved
+loop-pair-preserved c =
+    let two : chunks_size c.next.new.self ≡ 2 = c.in-Some.ensures.steps.0 ∙ c.loop-pair.invariant.2 in
+    let some : 0 < chunks_size c.next.new.self = omega arith in
+    let pair : length c.in-Some.pair.now ≡ 2 = omega arith in
+    let more = pair_more (vec_items c.loop-pair.bytes) (vec_items c.push.new.self) _ _ _ _ c.in-Some.ensures.steps.1.0 pair c.in-Some-byte.ensures c.in_ok-push.ensures.items in
+    (some, tt, two, more ∙ c.loop-pair.invariant.3)

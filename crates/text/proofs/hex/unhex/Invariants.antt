@@ -1,10 +1,12 @@
-use Rattle.std.proofs.Common.{◌≡◌, ◌-◌, ◌≤◌, length, drop, vec_items}
+use Rattle.std.proofs.Common.{◌≡◌, vec_items}
+use Rattle.std.specs.Slice.Iter.{chunks_rest, chunks_size}
 use Rattle.text.specs.Hex.{bytes_of}
 use Rattle.text.proofs.Hexes.{after}
 use Rattle.text.proofs.hex.unhex.Given as goal
 
-abbrev pub invariant-loop-at : goal.invariant-loop-at
-invariant-loop-at l = (l.at ≤ length l.text) × (after (vec_items l.bytes) (bytes_of (drop l.at l.text)) ≡ bytes_of l.text)
-
-abbrev pub decreases-loop-at : goal.decreases-loop-at
-decreases-loop-at l = length l.text - l.at
+abbrev pub invariant-loop-pair : goal.invariant-loop-pair
+invariant-loop-pair l =
+    (goal.iterator-loop-pair).can_next l.pair-iterator
+    × (goal.iterator-loop-pair).is_finite l.pair-iterator
+    × (chunks_size l.pair-iterator ≡ 2)
+    × (after (vec_items l.bytes) (bytes_of (chunks_rest l.pair-iterator)) ≡ bytes_of l.text)

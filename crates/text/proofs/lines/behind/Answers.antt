@@ -1,9 +1,0 @@
-use Rattle.std.proofs.Common.{◌+◌, sym, arith}
-use Rattle.std.proofs.lemmas.List.{drop_all, take_rest}
-use Rattle.text.proofs.lines.behind.Goals as goal
-
-pub returns-then-place-text : goal.returns-then-place-text
-returns-then-place-text c = take_rest c.args.text.now (c.args.place + 1)
-
-pub returns-else-place-text : goal.returns-else-place-text
-returns-else-place-text c = sym (drop_all (c.args.place + 1) c.args.text.now (omega arith))
