@@ -11,10 +11,13 @@ use text::numbers::number;
 fn call_on(line: &[u8]) -> Option<Entry>
     ensures { result ≡ call_on line.now }
 {
-    let [letter @ b'a'..=b'z', b' ', digits @ ..] = line else {
-        return None;
-    };
-    Some(Entry::new(*letter, number(digits, 255)?))
+    match line {
+        [letter @ b'a'..=b'z', b' ', digits @ ..] => Some(Entry::new(
+            *letter,
+            number(digits, 255)?,
+        )),
+        _ => None,
+    }
 }
 
 // A malformed line is the call `? 0`.
@@ -24,15 +27,18 @@ fn entry_of(line: &[u8]) -> Entry
     call_on(line).unwrap_or(Entry::new(b'?', 0))
 }
 
-/// The calls on the first lines of a text, so many at most.
-pub(crate) fn first_calls(heap: Global, text: &[u8], most: usize) -> Result<Vec<Entry>, AllocError>
+/// The calls on the first lines of a text, up to so many.
+pub(crate) fn calls_on(heap: Global, text: &[u8], most: usize) -> Result<Vec<Entry>, AllocError>
     ensures { IfOk result (λ calls. vec_items calls ≡ take most (entries_of text.now)) }
 {
-    Lines::of(text).map(entry_of).take(most).collect(heap)
+    Lines::of(text)
+        .map(|line| entry_of(line))
+        .take(most)
+        .collect(heap)
 }
 
-/// Whether a text has no more calls than so many.
-pub(crate) fn has_at_most(text: &[u8], most: usize) -> bool
+/// Whether these are all calls of a text.
+pub(crate) fn no_more_than(text: &[u8], most: usize) -> bool
     ensures { result ≡ nat_le (length (entries_of text.now)) most }
 {
     Lines::of(text).nth(most).is_none()

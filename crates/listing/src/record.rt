@@ -4,7 +4,7 @@ ghost use Rattle.sheet.specs.Decode.{accepted, decode};
 ghost use Rattle.listing.specs.Calls.{entries_of};
 ghost use Rattle.listing.specs.Listing.{LawfulListing, closing_line, listing_of, sheet_listing, worked};
 
-use crate::calls::{first_calls, has_at_most};
+use crate::calls::{calls_on, no_more_than};
 use crate::lines::EntryLines;
 use block::wire_pair::WirePair;
 use board::answer::Refusal;
@@ -34,7 +34,7 @@ fn work(plan: Plan, entries: &mut [Entry])
 fn closing(calls: &[u8]) -> &'static str
     ensures { result.now ≡ closing_line 1024 (entries_of calls.now) }
 {
-    if has_at_most(calls, ROWS) {
+    if no_more_than(calls, ROWS) {
         ""
     } else {
         "? 0 37 0\n"
@@ -46,7 +46,7 @@ fn accepted_lines(heap: Global, plan: Plan, calls: &[u8]) -> Result<String, Allo
     requires { 0 < plan.layout.counts.routes }
     ensures { IfOk result (λ s. string_bytes s ≡ sheet_listing (accepted plan.layout) (entries_of calls.now)) }
 {
-    let mut entries = first_calls(heap, calls, ROWS)?;
+    let mut entries = calls_on(heap, calls, ROWS)?;
     work(plan, entries.as_mut_slice());
     format!(in heap;
         "sheet 0 0\n{}{}",

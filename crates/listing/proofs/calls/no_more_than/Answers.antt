@@ -2,7 +2,7 @@ use Rattle.std.proofs.lemmas.List.{length-map}
 use Rattle.std.proofs.lemmas.Iterator.Consumers.{YieldsList-from_first, nth_from_yields_List}
 use Rattle.text.specs.Lines.{lines_of}
 use Rattle.listing.proofs.Counting.{none_at}
-use Rattle.listing.proofs.calls.has_at_most.Goals as goal
+use Rattle.listing.proofs.calls.no_more_than.Goals as goal
 
 pub returns : goal.returns
 returns c =

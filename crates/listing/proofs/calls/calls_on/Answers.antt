@@ -3,7 +3,7 @@ use Rattle.std.proofs.lemmas.Iterator.{YieldsList-from_map, YieldsList-from_take
 use Rattle.std.proofs.lemmas.Iterator.Consumers.{YieldsList-at, YieldsList-from_first}
 use Rattle.text.specs.Lines.{lines_of}
 use Rattle.listing.specs.Calls.{entry_of}
-use Rattle.listing.proofs.calls.first_calls.Goals as goal
+use Rattle.listing.proofs.calls.calls_on.Goals as goal
 
 pub returns : goal.returns
 returns c =
