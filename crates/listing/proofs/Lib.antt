@@ -1,3 +1,3 @@
+pub mod Noting
 pub mod Plans
 pub mod Loading
-pub mod Counting

@@ -1,6 +1,8 @@
 -- The calls of a duty, from the lines of its input.
-use Rattle.std.specs.Prelude.{ℕ, Bool, cond, ◌&&◌, List, [], ◌∷◌, map, None, Option, ◌==◌, nat_le}
+use Rattle.std.specs.Prelude.{ℕ, ◌-◌, Bool, cond, ◌&&◌, List, [], ◌∷◌, map, length, None, Ok, Err, Option, Result, ◌==◌, nat_le}
 use Rattle.std.specs.Option.{option_map, unwrap_or}
+use Rattle.basics.specs.declared.book.BookFault.{BookFault}
+use Rattle.basics.specs.declared.book.BookFault.TheVariants.{Full}
 use Rattle.frame.specs.Entries.{unworked}
 use Rattle.frame.specs.declared.entry.Entry.{Entry}
 use Rattle.text.specs.Lines.{lines_of}
@@ -23,3 +25,7 @@ entry_of line = unwrap_or (call_on line) (unworked 63 0)
 -- a call for each line of a text
 abbrev pub entries_of : List ℕ → List Entry
 entries_of text = map entry_of (lines_of text)
+
+-- what is answered when all of some calls are to go behind the first n rows of a book
+abbrev pub noting_answer : List Entry → ℕ → List Entry → Result (Unit {0}) BookFault
+noting_answer rows n calls = cond (nat_le (length calls) (length rows - n)) (Ok tt) (Err Full)

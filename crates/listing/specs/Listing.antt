@@ -1,5 +1,6 @@
 -- What the duty program prints for an input.
-use Rattle.std.specs.Prelude.{◌≡◌, ℕ, cond, List, [], ◌++◌, length, take, Some, None, codes, Option, nat_le}
+use Rattle.std.specs.Prelude.{◌≡◌, ℕ, cond, List, [], ◌++◌, length, take, Some, None, Ok, Err, codes, Option, Result, nat_le}
+use Rattle.basics.specs.declared.book.BookFault.{BookFault}
 use Rattle.sheet.specs.Decode.{Outcome, accepted, refused, decode}
 use Rattle.sheet.specs.declared.layout.Layout.{Layout}
 use Rattle.sheet.specs.declared.plan.Plan.{Plan}
@@ -18,13 +19,14 @@ use Rattle.listing.specs.Lines.{entry_lines}
 abbrev pub worked : Layout → List Entry → List Entry
 worked l entries = run_noted entries (loaded l (fresh_block 32))
 
--- a last line where there are more calls than rows
-abbrev pub closing_line : ℕ → List Entry → List ℕ
-closing_line rows entries = cond (nat_le (length entries) rows) [] (codes "? 0 37 0\n")
+-- a last line where not all entries were noted
+abbrev pub closing_by : Result (Unit {0}) BookFault → List ℕ
+closing_by (Ok u) = []
+closing_by (Err f) = codes "? 0 37 0\n"
 
 -- as many entries as there are rows are worked; where there are more, one line says so
 abbrev pub duty_lines : ℕ → Layout → List Entry → List ℕ
-duty_lines rows l entries = entry_lines (worked l (take rows entries)) ++ closing_line rows entries
+duty_lines rows l entries = entry_lines (worked l (take rows entries)) ++ cond (nat_le (length entries) rows) [] (codes "? 0 37 0\n")
 
 -- the sheet's line, with its fault's number and place or 0 and 0, and where it is accepted the lines of the calls: 1,024 rows
 abbrev pub sheet_listing : Outcome → List Entry → List ℕ

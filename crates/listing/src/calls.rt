@@ -1,9 +1,10 @@
 //! Call lines, read into entries.
-ghost use Rattle.std.specs.Prelude.{◌≡◌, IfOk, length, nat_le, take, vec_items};
-ghost use Rattle.listing.specs.Calls.{call_on, entry_of, entries_of};
+ghost use Rattle.std.specs.Prelude.{◌≡◌};
+ghost use Rattle.basics.specs.Books.{count_after, rows_after};
+ghost use Rattle.listing.specs.Calls.{call_on, entry_of, entries_of, noting_answer};
 
+use basics::book::{Book, BookFault};
 use frame::entry::Entry;
-use std::alloc::{AllocError, Global};
 use text::lines::Lines;
 use text::numbers::number;
 
@@ -27,19 +28,15 @@ fn entry_of(line: &[u8]) -> Entry
     call_on(line).unwrap_or(Entry::new(b'?', 0))
 }
 
-/// The calls on the first lines of a text, up to so many.
-pub(crate) fn calls_on(heap: Global, text: &[u8], most: usize) -> Result<Vec<Entry>, AllocError>
-    ensures { IfOk result (λ calls. vec_items calls ≡ take most (entries_of text.now)) }
+/// Notes the calls on the lines of a text in a book, one for each line, until the book is full.
+pub(crate) fn note_calls(text: &[u8], book: &mut Book<'_, Entry>) -> Result<(), BookFault>
+    ensures answer { result ≡ noting_answer book.old.rows.now book.old.count (entries_of text.now) }
+    ensures written { book.new.rows.now ≡ rows_after book.old.rows.now book.old.count (entries_of text.now) }
+    ensures filled { book.new.count ≡ count_after book.old.rows.now book.old.count (entries_of text.now) }
+    ensures lender { book.new.rows.ghost_name ≡ book.old.rows.ghost_name }
 {
-    Lines::of(text)
-        .map(|line| entry_of(line))
-        .take(most)
-        .collect(heap)
-}
-
-/// Whether these are all calls of a text.
-pub(crate) fn no_more_than(text: &[u8], most: usize) -> bool
-    ensures { result ≡ nat_le (length (entries_of text.now)) most }
-{
-    Lines::of(text).nth(most).is_none()
+    for line in Lines::of(text) {
+        book.add(entry_of(line))?;
+    }
+    Ok(())
 }

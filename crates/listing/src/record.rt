@@ -1,11 +1,12 @@
 //! The record of a duty, from the bytes of its input.
-ghost use Rattle.std.specs.Prelude.{◌≡◌, ◌<◌, IfOk, string_bytes};
+ghost use Rattle.std.specs.Prelude.{◌≡◌, ◌<◌, ◌≤◌, ◌++◌, codes, length, take, IfOk, string_bytes};
 ghost use Rattle.sheet.specs.Decode.{accepted, decode};
-ghost use Rattle.listing.specs.Calls.{entries_of};
-ghost use Rattle.listing.specs.Listing.{LawfulListing, closing_line, listing_of, sheet_listing, worked};
+ghost use Rattle.listing.specs.Calls.{entries_of, noting_answer};
+ghost use Rattle.listing.specs.Listing.{LawfulListing, closing_by, duty_lines, listing_of, sheet_listing, worked};
 
-use crate::calls::{calls_on, no_more_than};
+use crate::calls::note_calls;
 use crate::lines::EntryLines;
+use basics::book::{Book, BookFault};
 use block::wire_pair::WirePair;
 use board::answer::Refusal;
 use frame::entry::Entry;
@@ -17,9 +18,6 @@ use text::answers::refused_line;
 use text::input::sheet_bytes;
 use text::lines::split_line;
 
-/// The most calls that are worked.
-const ROWS: usize = 1_024;
-
 // A duty: loads a plan over a fresh wire pair, and works a list of calls.
 fn work(plan: Plan, entries: &mut [Entry])
     requires { 0 < plan.layout.counts.routes }
@@ -30,29 +28,50 @@ fn work(plan: Plan, entries: &mut [Entry])
     let _ = frame.close();
 }
 
-// A last line for the calls that a duty has no row for.
-fn closing(calls: &[u8]) -> &'static str
-    ensures { result.now ≡ closing_line 1024 (entries_of calls.now) }
+// Notes the calls of a text in rows from the front: how many found room, and whether all did.
+fn note_in(rows: &mut [Entry], calls: &[u8]) -> (usize, Result<(), BookFault>)
+    ensures front { take result.0 rows.new ≡ take (length rows.old) (entries_of calls.now) }
+    ensures within { result.0 ≤ length rows.old }
+    ensures answer { result.1 ≡ noting_answer rows.old 0 (entries_of calls.now) }
 {
-    if no_more_than(calls, ROWS) {
-        ""
-    } else {
-        "? 0 37 0\n"
+    let mut book = Book::new(rows);
+    let noted = note_calls(calls, &mut book);
+    (book.count(), noted)
+}
+
+// A last line for the calls that the book had no room for.
+fn closing(noted: Result<(), BookFault>) -> &'static str
+    ensures { result.now ≡ closing_by noted }
+{
+    match noted {
+        Ok(()) => "",
+        Err(_) => "? 0 37 0\n",
     }
 }
 
-// The lines of an accepted sheet: its own, one for each call of a text that is worked on the plan, and one more where there are too many.
+// The lines of an accepted sheet: its own, one for each call of a text that finds a row, worked on the plan, and one more where there
+// are too many.
+fn lines_in(
+    heap: Global,
+    plan: Plan,
+    calls: &[u8],
+    rows: &mut [Entry],
+) -> Result<String, AllocError>
+    requires { 0 < plan.layout.counts.routes }
+    ensures { IfOk result (λ s. string_bytes s ≡ codes "sheet 0 0\n" ++ duty_lines (length rows.old) plan.layout (entries_of calls.now)) }
+{
+    let (count, noted) = note_in(rows, calls);
+    let entries = &mut rows[0..count];
+    work(plan, entries);
+    format!(in heap; "sheet 0 0\n{}{}", EntryLines(entries), closing(noted))
+}
+
 fn accepted_lines(heap: Global, plan: Plan, calls: &[u8]) -> Result<String, AllocError>
     requires { 0 < plan.layout.counts.routes }
     ensures { IfOk result (λ s. string_bytes s ≡ sheet_listing (accepted plan.layout) (entries_of calls.now)) }
 {
-    let mut entries = calls_on(heap, calls, ROWS)?;
-    work(plan, entries.as_mut_slice());
-    format!(in heap;
-        "sheet 0 0\n{}{}",
-        EntryLines(entries.as_slice()),
-        closing(calls)
-    )
+    let mut rows = [Entry::new(b'?', 0); 1_024];
+    lines_in(heap, plan, calls, &mut rows)
 }
 
 fn sheet_listing(heap: Global, sheet: &[u8], calls: &[u8]) -> Result<String, AllocError>
