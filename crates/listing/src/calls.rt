@@ -1,6 +1,6 @@
 //! Call lines, read into entries.
 ghost use Rattle.std.specs.Prelude.{◌≡◌};
-ghost use Rattle.basics.specs.Books.{count_after, rows_after};
+ghost use Rattle.basics.specs.Adding.{Added};
 ghost use Rattle.listing.specs.Calls.{call_on, entry_of, entries_of, noting_answer};
 
 use basics::book::{Book, BookFault};
@@ -12,13 +12,10 @@ use text::numbers::number;
 fn call_on(line: &[u8]) -> Option<Entry>
     ensures { result ≡ call_on line.now }
 {
-    match line {
-        [letter @ b'a'..=b'z', b' ', digits @ ..] => Some(Entry::new(
-            *letter,
-            number(digits, 255)?,
-        )),
-        _ => None,
-    }
+    let [letter @ b'a'..=b'z', b' ', digits @ ..] = line else {
+        return None;
+    };
+    Some(Entry::new(*letter, number(digits, 255)?))
 }
 
 // A malformed line is the call `? 0`.
@@ -31,9 +28,7 @@ fn entry_of(line: &[u8]) -> Entry
 /// Notes the calls on the lines of a text in a book, one for each line, until the book is full.
 pub(crate) fn note_calls(text: &[u8], book: &mut Book<'_, Entry>) -> Result<(), BookFault>
     ensures answer { result ≡ noting_answer book.old.rows.now book.old.count (entries_of text.now) }
-    ensures written { book.new.rows.now ≡ rows_after book.old.rows.now book.old.count (entries_of text.now) }
-    ensures filled { book.new.count ≡ count_after book.old.rows.now book.old.count (entries_of text.now) }
-    ensures lender { book.new.rows.ghost_name ≡ book.old.rows.ghost_name }
+    ensures added { Added book.old book.new (entries_of text.now) }
 {
     for line in Lines::of(text) {
         book.add(entry_of(line))?;
