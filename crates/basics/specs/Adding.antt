@@ -1,4 +1,5 @@
--- What a call that adds entries to a book says of the book.
+-- What a call that adds entries to a book says of the book. `Book::add` says it in the words of Books: the file of `Book`
+-- cannot name this one, which names `Book`.
 use Rattle.std.specs.Prelude.{◌≡◌, List}
 use Rattle.basics.specs.Books.{rows_after, count_after}
 use Rattle.basics.specs.declared.book.Book.{Book}

@@ -24,6 +24,7 @@ impl BookFault {
 /// Rows of any kind, filled from the front. The rows are the lender's again when the book ends.
 #[derive(Drop)]
 pub struct Book<'a, T> {
+    // Lent rows and a count beside them, since the field crates have no heap.
     rows: &'a mut [T],
     count: usize,
     ghost within: { count ≤ length rows.now },

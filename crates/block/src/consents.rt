@@ -12,6 +12,7 @@ use basics::route_set::RouteSet;
 
 #[derive(Drop)]
 pub struct Consents<T: Token> {
+    // Room for the most lines that there can be, since the field crates have no heap.
     tokens: [T; 32],
     lines: usize,
     whole: bool,
