@@ -52,11 +52,8 @@ impl Board {
         ensures after { self.new ≡ settled result (set_changed plan.now.layout self.old r) self.old }
     {
         let route = plan.route(r).ok_or(FrameFault::NoSuchNumber.at(r))?;
-        check(
-            self.levers[route.lever] == Lever::Normal,
-            FrameFault::LeverThrown,
-            r,
-        )?;
+        let lever = self.levers[route.lever];
+        check(lever == Lever::Normal, FrameFault::LeverThrown, r)?;
         check(out, FrameFault::ConsentHome, r)?;
         if let Some(p) = self.obstacle(plan, &route) {
             let fault = if self.points[p].is_trailed() {
@@ -121,11 +118,8 @@ impl Board {
         ensures after { self.new ≡ settled result (contact_changed plan.now.layout self.old r) self.old }
     {
         check(r < plan.counts().routes, FrameFault::NoSuchNumber, r)?;
-        check(
-            self.fields[r] == Stage::Cleared,
-            FrameFault::NoTrainAwaited,
-            r,
-        )?;
+        let stage = self.fields[r];
+        check(stage == Stage::Cleared, FrameFault::NoTrainAwaited, r)?;
         self.fields[r] = Stage::Run;
         self.drop_arm(plan, r);
         Ok(())
@@ -138,11 +132,8 @@ impl Board {
     {
         let route = plan.route(r).ok_or(FrameFault::NoSuchNumber.at(r))?;
         check(self.fields[r].is_held(), FrameFault::FieldOpen, r)?;
-        check(
-            !self.signals[route.signal].is_pulled(),
-            FrameFault::SignalPulled,
-            r,
-        )?;
+        let arm = self.signals[route.signal];
+        check(!arm.is_pulled(), FrameFault::SignalPulled, r)?;
         match route.release {
             Release::Train => check(self.fields[r] == Stage::Run, FrameFault::TrainNotRun, r)?,
             Release::Station if !whole => from_block(Err(BlockFault::LineCut), r)?,

@@ -51,7 +51,7 @@ impl Board {
     }
 
     // The lowest point that keeps a route from being set.
-    // It and `failure` differ in one test: a function that took the test would say less of what it finds than these two chains.
+    // It and `failure` differ in one test: a function that took the test would have a longer contract than the two chains.
     pub(crate) fn obstacle(&self, plan: &Plan, route: &Route) -> Option<usize>
         ensures value { result ≡ obstacle_of plan.now.layout self.now route.now }
         ensures within { IfSome result (λ p. p < 32) }
