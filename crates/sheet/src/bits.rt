@@ -40,10 +40,7 @@ impl<'a> BitReader<'a> {
     {
         let start = self.at;
         if (start + width - 1) / 8 >= self.bytes.len() {
-            return Err(SheetFault {
-                flaw: Flaw::EndsInside,
-                place: start,
-            });
+            return Err(Flaw::EndsInside.at(start));
         }
         let mut value: usize = 0;
         for k in 0..width {
@@ -59,10 +56,7 @@ impl<'a> BitReader<'a> {
     {
         let place = self.at;
         if self.field(4)? != 1 {
-            return Err(SheetFault {
-                flaw: Flaw::WrongEdition,
-                place,
-            });
+            return Err(Flaw::WrongEdition.at(place));
         }
         Ok(())
     }
@@ -81,10 +75,7 @@ impl<'a> BitReader<'a> {
         let place = self.at;
         let n = self.field(width)?;
         if n < least || n > most {
-            return Err(SheetFault {
-                flaw: Flaw::CountOutside,
-                place,
-            });
+            return Err(Flaw::CountOutside.at(place));
         }
         Ok(n)
     }
@@ -99,10 +90,7 @@ impl<'a> BitReader<'a> {
         let place = self.at;
         let n = self.field(width)?;
         if n >= limit {
-            return Err(SheetFault {
-                flaw: Flaw::NumberTooHigh,
-                place,
-            });
+            return Err(Flaw::NumberTooHigh.at(place));
         }
         Ok(n)
     }
@@ -114,10 +102,7 @@ impl<'a> BitReader<'a> {
     {
         let place = self.at;
         let code = self.field(T::WIDTH)?;
-        T::from_code(code).ok_or(SheetFault {
-            flaw: Flaw::BadPointCode,
-            place,
-        })
+        T::from_code(code).ok_or(Flaw::BadPointCode.at(place))
     }
 
     // Zeros up to a whole byte, and no byte after them.
@@ -128,18 +113,12 @@ impl<'a> BitReader<'a> {
         let end = (self.at + 7) / 8 * 8;
         for i in self.at..end {
             if self.bit(i) != 0 {
-                return Err(SheetFault {
-                    flaw: Flaw::BadFilling,
-                    place: i,
-                });
+                return Err(Flaw::BadFilling.at(i));
             }
         }
         self.at = end;
         if end / 8 < self.bytes.len() {
-            return Err(SheetFault {
-                flaw: Flaw::BadFilling,
-                place: end,
-            });
+            return Err(Flaw::BadFilling.at(end));
         }
         Ok(())
     }

@@ -63,10 +63,7 @@ impl PlanRule {
         ensures { judged layout.now result ≡ refuse self (lowest_broken layout.now self) (accepted layout.now) }
     {
         match self.first_broken(layout) {
-            Some(place) => Err(SheetFault {
-                flaw: self.flaw(),
-                place,
-            }),
+            Some(place) => Err(self.flaw().at(place)),
             None => Ok(()),
         }
     }

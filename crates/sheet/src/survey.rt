@@ -30,13 +30,7 @@ fn note_rule(rule: PlanRule, layout: &Layout, book: &mut Book<'_, SheetFault>) -
     let mut total = 0;
     for place in 0..rule.extent(layout) {
         if rule.is_broken(layout, place) {
-            note(
-                SheetFault {
-                    flaw: rule.flaw(),
-                    place,
-                },
-                book,
-            );
+            note(rule.flaw().at(place), book);
             total += 1;
         }
     }

@@ -19,9 +19,9 @@ loop-place-preserved c =
     let there = breaks_there l r k (omega (arith, c.extent-place-end.ensures)) in
     elim c.if-is_broken.branch [
       | then-is_broken w ↦
-          let x : SheetFault = record { flaw = w.flaw.result; place = k } in
+          let x = w.at.result in
           let e : ys ++ x ∷ [] ≡ breaches_to l r (k + 1) =
-          ap (λ f. ys ++ record { flaw = f; place = k } ∷ []) w.flaw.ensures ∙ sym (breach_more l r k (sym there ∙ sym w.if-is_broken.ensures)) in
+          ap (λ x. ys ++ x ∷ []) (w.at.ensures ∙ ap (λ f. record { flaw = f; place = k }) w.flaw.ensures) ∙ sym (breach_more l r k (sym there ∙ sym w.if-is_broken.ensures)) in
           record {
             total = omega (arith, w.total-is, v.total, ap length e, length_push ys x);
             small = omega (arith, w.total-is, v.small);

@@ -4,7 +4,7 @@ use Rattle.sheet.proofs.bits.BitReader.filling.Goals as goal
 
 pub returns-then-bit-ne0 : goal.returns-then-bit-ne0
 returns-then-bit-ne0 c = record {
-  value = sym (zeros_stop c.args.self.now.bytes.now c.loop-i.i ((c.args.self.now.at + 7) / 8 * 8) (omega arith) (λ z. omega arith)) ∙ c.loop-i.invariant;
+  value = rw c.at.ensures (sym (zeros_stop c.args.self.now.bytes.now c.loop-i.i ((c.args.self.now.at + 7) / 8 * 8) (omega arith) (λ z. omega arith)) ∙ c.loop-i.invariant);
   near = omega arith;
 }
 
