@@ -1,6 +1,7 @@
 //! The bit reader: fields that follow one another without gaps, most significant bit first.
-ghost use Rattle.std.specs.Prelude.{◌≡◌, ◌<◌, ◌≤◌, IfOk};
-ghost use Rattle.sheet.specs.Bits.{Reads, bit_of, field_at};
+ghost use Rattle.std.specs.Prelude.{◌≡◌, ◌-◌, ◌<◌, ◌≤◌, IfOk};
+ghost use Rattle.std.specs.List.{find, range_with_len};
+ghost use Rattle.sheet.specs.Bits.{Reads, bit_of, field_at, is_set};
 ghost use Rattle.sheet.specs.Fields.{coded_at, count_at, edition_at, filling_at, number_at};
 
 use crate::coded::Coded;
@@ -43,6 +44,7 @@ impl<'a> BitReader<'a> {
             return Err(Flaw::EndsInside.at(start));
         }
         let mut value: usize = 0;
+        // A loop, since a `fold` over the bits does not know that the value stays within them.
         for k in 0..width {
             value = value * 2 + usize::from(self.bit(start + k));
         }
@@ -105,16 +107,21 @@ impl<'a> BitReader<'a> {
         T::from_code(code).ok_or(Flaw::BadPointCode.at(place))
     }
 
+    // The first bit from here up to bit `end` that is set.
+    fn first_set(&self, end: usize) -> Option<usize>
+        ensures { result ≡ find (is_set self.now.bytes.now) (range_with_len self.now.at (end - self.now.at)) }
+    {
+        (self.at..end).find(|i| self.bit(*i) != 0)
+    }
+
     // Zeros up to a whole byte, and no byte after them.
     pub(crate) fn filling(&mut self) -> Result<(), SheetFault>
         requires { self.old.at ≤ 4000 }
         ensures { Reads self.old result self.new filling_at 7 }
     {
         let end = (self.at + 7) / 8 * 8;
-        for i in self.at..end {
-            if self.bit(i) != 0 {
-                return Err(Flaw::BadFilling.at(i));
-            }
+        if let Some(set) = self.first_set(end) {
+            return Err(Flaw::BadFilling.at(set));
         }
         self.at = end;
         if end / 8 < self.bytes.len() {

@@ -28,6 +28,7 @@ fn note_rule(rule: PlanRule, layout: &Layout, book: &mut Book<'_, SheetFault>) -
     ensures added { Added book.old book.new (breaches layout.now rule) }
 {
     let mut total = 0;
+    // With an `if`: over a filter's items the total's bound does not prove, since they are known only at the end.
     for place in 0..rule.extent(layout) {
         if rule.is_broken(layout, place) {
             note(rule.flaw().at(place), book);

@@ -1,13 +1,30 @@
-use Rattle.std.proofs.Common.{◌+◌, ◌*◌, ◌/◌, sym, ◌∙◌, arith}
-use Rattle.sheet.proofs.Filled.{zeros_more, zeros_stop}
+use Rattle.std.proofs.Common.{◌≡◌, ◌+◌, ◌-◌, ◌*◌, ◌/◌, length, sym, ◌∙◌, arith}
+use Rattle.std.proofs.lemmas.Bool.{lt-ltb, le-ltb}
+use Rattle.sheet.proofs.Filled.{zeros_found, zeros_passed}
 use Rattle.sheet.proofs.bits.BitReader.filling.Goals as goal
 
-pub returns-then-bit-ne0 : goal.returns-then-bit-ne0
-returns-then-bit-ne0 c = record {
-  value = rw c.at.ensures (sym (zeros_stop c.args.self.now.bytes.now c.loop-i.i ((c.args.self.now.at + 7) / 8 * 8) (omega arith) (λ z. omega arith)) ∙ c.loop-i.invariant);
-  near = omega arith;
-}
+pub returns-in-Some : goal.returns-in-Some
+returns-in-Some c =
+    let i = c.args.self.now.at in
+    let e = zeros_found c.args.self.now.bytes.now i ((i + 7) / 8 * 8 - i) c.in-Some.set (sym c.first_set.ensures ∙ c.in-Some.is) in
+    record { value = rw c.at.ensures (sym e); near = omega arith }
 
-pub loop-i-preserved : goal.loop-i-preserved
-loop-i-preserved c =
-    sym (zeros_more c.args.self.now.bytes.now c.loop-i.i ((c.args.self.now.at + 7) / 8 * 8) (omega arith) (omega arith)) ∙ c.loop-i.invariant
+pub returns-then-end-self : goal.returns-then-end-self
+returns-then-end-self c =
+    let s = c.args.self.now.bytes.now in
+    let i = c.args.self.now.at in
+    let end = (i + 7) / 8 * 8 in
+    let here : i + (end - i) ≡ end = omega arith in
+    let e = zeros_passed s i (end - i) (sym c.first_set.ensures ∙ c.in_default.is) in
+    let t = lt-ltb (end / 8) (length s) c.if-end-self.true in
+    record { value = rw (c.at-then-end-self.ensures, e, here, t); near = omega arith }
+
+pub returns : goal.returns
+returns c =
+    let s = c.args.self.now.bytes.now in
+    let i = c.args.self.now.at in
+    let end = (i + 7) / 8 * 8 in
+    let here : i + (end - i) ≡ end = omega arith in
+    let e = zeros_passed s i (end - i) (sym c.first_set.ensures ∙ c.in_default.is) in
+    let t = le-ltb (end / 8) (length s) c.if-end-self.false in
+    record { value = rw (e, here, t); near = omega arith }
