@@ -1,5 +1,5 @@
 -- The bits of a sheet, and what reading them gives.
-use Rattle.std.specs.Prelude.{◌≡◌, ◌≤◌, ℕ, zero, suc, ◌+◌, ◌-◌, ◌*◌, ◌/◌, ◌%◌, ◌^◌, ◌<◌, Bool, not, cond, ◌==◌, List, length, Ok, Err, Result, nat_le, slice_index}
+use Rattle.std.specs.Prelude.{◌≡◌, ◌≤◌, ℕ, zero, suc, ◌+◌, ◌-◌, ◌*◌, ◌/◌, ◌%◌, ◌^◌, ◌<◌, Bool, cond, List, length, Ok, Err, Result, nat_le, slice_index}
 use Rattle.sheet.specs.declared.bits.BitReader.{BitReader}
 use Rattle.sheet.specs.declared.fault.SheetFault.{SheetFault}
 use Rattle.sheet.specs.declared.fault.Flaw.{Flaw}
@@ -12,9 +12,6 @@ Bytes s = (i : ℕ) → slice_index s i < 256
 -- bit i of a sheet: bit 0 is the top bit of the first byte
 abbrev pub bit_of : List ℕ → ℕ → ℕ
 bit_of s i = slice_index s (i / 8) / 2 ^ (7 - i % 8) % 2
-
-abbrev pub is_set : List ℕ → ℕ → Bool
-is_set s i = not (bit_of s i == 0)
 
 -- the number that k bits from bit i on make, most significant first
 abbrev pub value_of : List ℕ → ℕ → ℕ → ℕ

@@ -1,8 +1,9 @@
 //! The bit reader: fields that follow one another without gaps, most significant bit first.
 ghost use Rattle.std.specs.Prelude.{◌≡◌, ◌-◌, ◌<◌, ◌≤◌, IfOk};
-ghost use Rattle.std.specs.List.{find, range_with_len};
-ghost use Rattle.sheet.specs.Bits.{Reads, bit_of, field_at, is_set};
-ghost use Rattle.sheet.specs.Fields.{coded_at, count_at, edition_at, filling_at, number_at};
+ghost use Rattle.std.specs.Option.{MatchOption};
+ghost use Rattle.sheet.specs.Bits.{Reads, bit_of, fault, field_at};
+ghost use Rattle.sheet.specs.declared.fault.Flaw.TheVariants.{BadFilling};
+ghost use Rattle.sheet.specs.Fields.{coded_at, count_at, edition_at, filling_at, number_at, zeros_at};
 
 use crate::coded::Coded;
 use crate::fault::{Flaw, SheetFault};
@@ -107,9 +108,12 @@ impl<'a> BitReader<'a> {
         T::from_code(code).ok_or(Flaw::BadPointCode.at(place))
     }
 
-    // The first bit from here up to bit `end` that is set.
+    // The first bit from here up to bit `end` that is set, which no filling bit may be.
     fn first_set(&self, end: usize) -> Option<usize>
-        ensures { result ≡ find (is_set self.now.bytes.now) (range_with_len self.now.at (end - self.now.at)) }
+        requires { self.now.at ≤ end }
+        ensures { MatchOption result
+            (zeros_at self.now.bytes.now self.now.at (end - self.now.at) ≡ zeros_at self.now.bytes.now end 0)
+            (λ p. zeros_at self.now.bytes.now self.now.at (end - self.now.at) ≡ fault BadFilling p) }
     {
         (self.at..end).find(|i| self.bit(*i) != 0)
     }

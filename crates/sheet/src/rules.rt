@@ -6,7 +6,8 @@ ghost use Rattle.sheet.specs.Rules.{breaks, extent_of, flaw_of, lowest_broken, s
 use crate::fault::{Flaw, SheetFault};
 use crate::layout::Layout;
 
-/// Each is asked of one route, lever or signal at a time.
+/// Each is asked of one route, lever or signal at a time. A value and no closure, since a sheet's survey and what is said of
+/// it speak of each rule by name.
 #[derive(Clone, Copy)]
 pub(crate) enum PlanRule {
     OneRouteASide,

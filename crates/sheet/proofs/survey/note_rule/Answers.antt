@@ -1,10 +1,9 @@
-use Rattle.std.proofs.Common.{◌≡◌, ◌+◌, [], ◌∷◌, ◌++◌, length, sym, ap, ◌∙◌, arith}
+use Rattle.std.proofs.Common.{◌≡◌, ◌+◌, [], ◌∷◌, ◌++◌, length, sym, refl, ap, ◌∙◌, arith}
 use Rattle.std.proofs.lemmas.List.{length_push}
 use Rattle.sheet.specs.Rules.{extent_of}
 use Rattle.sheet.specs.Survey.{breaches_to}
-use Rattle.sheet.specs.declared.fault.SheetFault.{SheetFault}
-use Rattle.basics.proofs.Adds.{added_is, added_none, added_then}
-use Rattle.sheet.proofs.Breaches.{breach_more, breach_none, extent_few}
+use Rattle.basics.proofs.Adds.{added_is, added_then}
+use Rattle.sheet.proofs.Breaches.{breach_more, breach_none}
 use Rattle.sheet.proofs.Breaking.{breaks_there}
 use Rattle.sheet.proofs.survey.note_rule.Goals as goal
 use Rattle.sheet.proofs.survey.note_rule.Goals.{then-is_broken, else-is_broken}
@@ -35,3 +34,8 @@ loop-place-preserved c =
             added = added_is _ _ _ _ _ w.book-is e v.added;
           }
     ]
+
+pub returns-clause-onward : goal.returns-clause-onward
+returns-clause-onward c = λ first ys h.
+    let end : c.loop-place.place ≡ extent_of c.args.layout.now c.args.rule = omega (arith, c.extent-place-end.ensures) in
+    added_then first c.args.book.now c.loop-place.book ys _ h (added_is _ _ _ _ _ refl (ap (breaches_to c.args.layout.now c.args.rule) end) c.loop-place.invariant.added)
