@@ -1,5 +1,5 @@
 -- Whether a rule is broken, from its tests.
-use Rattle.std.proofs.Common.{◌≡◌, ℕ, zero, suc, ◌<◌, Bool, ◌&&◌, ltb, refl, arith}
+use Rattle.std.proofs.Common.{◌≡◌, ℕ, zero, suc, ◌<◌, Bool, refl, arith}
 use Rattle.std.proofs.lemmas.Bool.{lt-ltb}
 use Rattle.basics.specs.Scan.{lowest}
 use Rattle.sheet.specs.Rules.{breaks, broken, extent_of}

@@ -1,6 +1,7 @@
 -- Rows that are filled item by item, and zeros that are passed one by one.
-use Rattle.std.proofs.Common.{◌≡◌, ℕ, suc, ◌+◌, ◌-◌, ◌*◌, ◌<◌, ◌≤◌, mul-suc, true, false, eqb, List, set, arith}
-use Rattle.std.proofs.lemmas.Bool.{eq-eqb, ne_eqb}
+use Rattle.std.proofs.Common.{◌≡◌, ℕ, zero, suc, ◌+◌, ◌-◌, ◌*◌, ◌<◌, ◌≤◌, mul-suc, Bool, true, false, not, cond, eqb, List, set, Some, None, Option, add-zero, ap, ◌∙◌, arith}
+use Rattle.std.specs.List.{find, range_with_len}
+use Rattle.std.specs.Option.{MatchOption}
 use Rattle.sheet.specs.Bits.{Read, done, fault, bit_of}
 use Rattle.sheet.specs.Fields.{fill, zeros_at}
 use Rattle.sheet.specs.declared.fault.Flaw.{Flaw}
@@ -20,15 +21,26 @@ module _ {A : Type 0} (one : ℕ → List ℕ → ℕ → Read A) (s : List ℕ)
 pub wider : (w start k : ℕ) → start ≤ k → w * (k + 1 - start) ≡ w * (k - start) + w
 wider w start k h = let e : k + 1 - start ≡ suc (k - start) = omega arith in rw (e, mul-suc)
 
-module _ (s : List ℕ) (i end : ℕ) where
-  pub zeros_more : i < end → bit_of s i ≡ 0 → zeros_at s i (end - i) ≡ zeros_at s (i + 1) (end - (i + 1))
-  zeros_more h z =
-      let m : end - i ≡ suc (end - (i + 1)) = omega arith in
-      let t : eqb (bit_of s i) 0 ≡ true = eq-eqb _ _ z in
-      rw (m, t)
+-- what the first filling bit that is set says of them all
+abbrev pub is_set : List ℕ → ℕ → Bool
+is_set s i = not (eqb (bit_of s i) 0)
 
-  pub zeros_stop : i < end → (bit_of s i ≡ 0 → ⊥) → zeros_at s i (end - i) ≡ fault BadFilling i
-  zeros_stop h z =
-      let m : end - i ≡ suc (end - (i + 1)) = omega arith in
-      let t : eqb (bit_of s i) 0 ≡ false = ne_eqb _ _ z in
-      rw (m, t)
+zeros_found : (s : List ℕ) (i m p : ℕ) → find (is_set s) (range_with_len i m) ≡ Some p → zeros_at s i m ≡ fault BadFilling p
+zeros_found s i zero p h = cc
+zeros_found s i (suc m) p h =
+    let step : (b : Bool) → cond (not b) (Some i) (find (is_set s) (range_with_len (i + 1) m)) ≡ Some p → cond b (zeros_at s (i + 1) m) (fault BadFilling i) ≡ fault BadFilling p =
+    elim [ true ↦ zeros_found s (i + 1) m p | false ↦ λ e. (cc) ] in
+    step (eqb (bit_of s i) 0) h
+
+zeros_passed : (s : List ℕ) (i m : ℕ) → find (is_set s) (range_with_len i m) ≡ None → zeros_at s i m ≡ zeros_at s (i + m) 0
+zeros_passed s i zero h = rw add-zero
+zeros_passed s i (suc m) h =
+    let next : i + suc m ≡ (i + 1) + m = omega arith in
+    let step : (b : Bool) → cond (not b) (Some i) (find (is_set s) (range_with_len (i + 1) m)) ≡ None → cond b (zeros_at s (i + 1) m) (fault BadFilling i) ≡ zeros_at s ((i + 1) + m) 0 =
+    elim [ true ↦ zeros_passed s (i + 1) m | false ↦ λ e. (cc) ] in
+    rw next (step (eqb (bit_of s i) 0) h)
+
+pub zeros_by : (s : List ℕ) (i end : ℕ) (o : Option ℕ) → i ≤ end → find (is_set s) (range_with_len i (end - i)) ≡ o
+    → MatchOption o (zeros_at s i (end - i) ≡ zeros_at s end 0) (λ p. zeros_at s i (end - i) ≡ fault BadFilling p)
+zeros_by s i end (Some p) h e = zeros_found s i (end - i) p e
+zeros_by s i end None h e = let here : i + (end - i) ≡ end = omega arith in zeros_passed s i (end - i) e ∙ ap (λ j. zeros_at s j 0) here

@@ -1,5 +1,5 @@
 -- Each part of a sheet that was read is the bits that its value is written with.
-use Rattle.std.proofs.Common.{◌≡◌, ℕ, zero, suc, ◌+◌, ◌-◌, ◌*◌, ◌^◌, ◌<◌, ◌≤◌, Bool, false, cond, ◌&&◌, eqb, ltb, leb, ◌≢◌, List, ◌++◌, length, get_or, set, replicate, Some, None, Option, sym, refl, ap, ◌∙◌, subst, arith}
+use Rattle.std.proofs.Common.{◌≡◌, ℕ, zero, suc, ◌+◌, ◌-◌, ◌*◌, ◌<◌, ◌≤◌, Bool, false, cond, ◌&&◌, eqb, ltb, leb, ◌≢◌, List, ◌++◌, length, get_or, set, replicate, Some, None, Option, sym, refl, ap, ◌∙◌, subst, arith}
 use Rattle.std.proofs.Math.Nat.{sub-zero}
 use Rattle.std.proofs.lemmas.Bool.{and_parts, leb-true, eqb-true}
 use Rattle.std.proofs.lemmas.List.{length-set, get_or-set_same, get_or-set_other}
@@ -7,13 +7,10 @@ use Rattle.sheet.specs.Bits.{Read, done, fault, next, field_at}
 use Rattle.sheet.specs.Fields.{edition_at, count_at, counts_at, number_at, meant, coded_at, demand_at, flag_at, side_at, release_at, fill, demands_at, named_at, route_at}
 use Rattle.sheet.specs.Codes.{Agree, side_code, release_code, demand_code, flag_code, side_agree, release_agree, demand_agree, flag_agree}
 use Rattle.sheet.specs.Encode.{bits_of, each, counts_bits, demand_bits, named_bits, route_bits}
-use Rattle.sheet.specs.declared.fault.Flaw.TheVariants.{WrongEdition, CountOutside, NumberTooHigh, BadPointCode}
+use Rattle.sheet.specs.declared.fault.Flaw.TheVariants.{WrongEdition, CountOutside, NumberTooHigh}
 use Rattle.sheet.specs.declared.layout.Side.{Side}
-use Rattle.sheet.specs.declared.layout.Side.TheVariants.{Up, Down}
 use Rattle.sheet.specs.declared.layout.Release.{Release}
-use Rattle.sheet.specs.declared.layout.Release.TheVariants.{Station, Train}
 use Rattle.sheet.specs.declared.layout.Position.{Position}
-use Rattle.sheet.specs.declared.layout.Position.TheVariants.{Plus, Minus}
 use Rattle.sheet.specs.declared.layout.Counts.{Counts}
 use Rattle.sheet.specs.declared.layout.Route.{Route}
 use Rattle.sheet.proofs.Took.{Took, took_none, took_append, went, kept, field_took, done_parts}

@@ -1,5 +1,5 @@
 -- The sheet of a plan: the layout the other way round.
-use Rattle.std.specs.Prelude.{ℕ, zero, suc, ◌+◌, ◌-◌, ◌*◌, ◌/◌, ◌%◌, ◌^◌, Bool, false, cond, List, [], ◌∷◌, ◌++◌, length, replicate, None, Option, slice_index_or}
+use Rattle.std.specs.Prelude.{ℕ, zero, suc, ◌+◌, ◌-◌, ◌*◌, ◌/◌, ◌%◌, ◌^◌, Bool, false, List, [], ◌∷◌, ◌++◌, length, replicate, None, Option, slice_index_or}
 use Rattle.std.specs.List.{flat_map}
 use Rattle.sheet.specs.Codes.{side_code, release_code, demand_code, flag_code}
 use Rattle.sheet.specs.Layouts.{route_in}

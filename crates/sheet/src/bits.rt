@@ -1,7 +1,9 @@
 //! The bit reader: fields that follow one another without gaps, most significant bit first.
-ghost use Rattle.std.specs.Prelude.{◌≡◌, ◌<◌, ◌≤◌, IfOk};
-ghost use Rattle.sheet.specs.Bits.{Reads, bit_of, field_at};
-ghost use Rattle.sheet.specs.Fields.{coded_at, count_at, edition_at, filling_at, number_at};
+ghost use Rattle.std.specs.Prelude.{◌≡◌, ◌-◌, ◌<◌, ◌≤◌, IfOk};
+ghost use Rattle.std.specs.Option.{MatchOption};
+ghost use Rattle.sheet.specs.Bits.{Reads, bit_of, fault, field_at};
+ghost use Rattle.sheet.specs.declared.fault.Flaw.TheVariants.{BadFilling};
+ghost use Rattle.sheet.specs.Fields.{coded_at, count_at, edition_at, filling_at, number_at, zeros_at};
 
 use crate::coded::Coded;
 use crate::fault::{Flaw, SheetFault};
@@ -40,12 +42,10 @@ impl<'a> BitReader<'a> {
     {
         let start = self.at;
         if (start + width - 1) / 8 >= self.bytes.len() {
-            return Err(SheetFault {
-                flaw: Flaw::EndsInside,
-                place: start,
-            });
+            return Err(Flaw::EndsInside.at(start));
         }
         let mut value: usize = 0;
+        // A loop, since a `fold` over the bits does not know that the value stays within them.
         for k in 0..width {
             value = value * 2 + usize::from(self.bit(start + k));
         }
@@ -59,10 +59,7 @@ impl<'a> BitReader<'a> {
     {
         let place = self.at;
         if self.field(4)? != 1 {
-            return Err(SheetFault {
-                flaw: Flaw::WrongEdition,
-                place,
-            });
+            return Err(Flaw::WrongEdition.at(place));
         }
         Ok(())
     }
@@ -81,10 +78,7 @@ impl<'a> BitReader<'a> {
         let place = self.at;
         let n = self.field(width)?;
         if n < least || n > most {
-            return Err(SheetFault {
-                flaw: Flaw::CountOutside,
-                place,
-            });
+            return Err(Flaw::CountOutside.at(place));
         }
         Ok(n)
     }
@@ -99,10 +93,7 @@ impl<'a> BitReader<'a> {
         let place = self.at;
         let n = self.field(width)?;
         if n >= limit {
-            return Err(SheetFault {
-                flaw: Flaw::NumberTooHigh,
-                place,
-            });
+            return Err(Flaw::NumberTooHigh.at(place));
         }
         Ok(n)
     }
@@ -114,10 +105,17 @@ impl<'a> BitReader<'a> {
     {
         let place = self.at;
         let code = self.field(T::WIDTH)?;
-        T::from_code(code).ok_or(SheetFault {
-            flaw: Flaw::BadPointCode,
-            place,
-        })
+        T::from_code(code).ok_or(Flaw::BadPointCode.at(place))
+    }
+
+    // The first bit from here up to bit `end` that is set, which no filling bit may be.
+    fn first_set(&self, end: usize) -> Option<usize>
+        requires { self.now.at ≤ end }
+        ensures { MatchOption result
+            (zeros_at self.now.bytes.now self.now.at (end - self.now.at) ≡ zeros_at self.now.bytes.now end 0)
+            (λ p. zeros_at self.now.bytes.now self.now.at (end - self.now.at) ≡ fault BadFilling p) }
+    {
+        (self.at..end).find(|i| self.bit(*i) != 0)
     }
 
     // Zeros up to a whole byte, and no byte after them.
@@ -126,20 +124,12 @@ impl<'a> BitReader<'a> {
         ensures { Reads self.old result self.new filling_at 7 }
     {
         let end = (self.at + 7) / 8 * 8;
-        for i in self.at..end {
-            if self.bit(i) != 0 {
-                return Err(SheetFault {
-                    flaw: Flaw::BadFilling,
-                    place: i,
-                });
-            }
+        if let Some(set) = self.first_set(end) {
+            return Err(Flaw::BadFilling.at(set));
         }
         self.at = end;
         if end / 8 < self.bytes.len() {
-            return Err(SheetFault {
-                flaw: Flaw::BadFilling,
-                place: end,
-            });
+            return Err(Flaw::BadFilling.at(end));
         }
         Ok(())
     }

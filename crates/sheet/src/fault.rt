@@ -38,6 +38,13 @@ impl Flaw {
     {
         self as u8
     }
+
+    // The fault of this kind at a place.
+    pub(crate) fn at(self, place: usize) -> SheetFault
+        ensures { result ≡ record { flaw = self; place = place } }
+    {
+        SheetFault { flaw: self, place }
+    }
 }
 
 /// A sheet's fault: what is wrong, and at which bit, route, lever or signal; at place 0 where a writing is refused.

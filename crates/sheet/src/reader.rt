@@ -43,7 +43,7 @@ fn row<T: Coded>(
     ensures { Reads bits.old result bits.new (row_at T.WIDTH T.value_of blank places.start places.end) (T.WIDTH * (places.end - places.start)) }
 {
     let mut row = [blank; 32];
-    // By number: a loop over `&mut row[places]` is not covered by the checker yet.
+    // By number, since no proof is made of a loop over `&mut row[places]`.
     for k in places.start..places.end {
         row[k] = bits.coded()?;
     }
@@ -80,6 +80,7 @@ fn routes(bits: &mut BitReader, counts: Counts) -> Result<[Route; 32], SheetFaul
     ensures within { IfOk result (WithinTo counts.routes counts) }
 {
     let mut rows = [NO_ROUTE; 32];
+    // By number, as in `row`.
     for k in 0..counts.routes {
         rows[k] = route(bits, counts, k)?;
     }
@@ -110,12 +111,19 @@ fn valid_layout(sheet: &[u8]) -> Result<Layout, SheetFault>
     Ok(layout)
 }
 
+fn valid_plan(sheet: &[u8]) -> Result<Plan, SheetFault>
+    ensures outcome { answered result ≡ decode sheet.now }
+    ensures again { IfOk result (λ p. sheet_of p.layout ≡ sheet.now) }
+{
+    let layout = valid_layout(sheet)?;
+    Ok(Plan { layout })
+}
+
 /// The plan that a sheet says, or its first fault; the sheet of that plan is this sheet, bit for bit.
 pub fn read(sheet: &[u8]) -> Result<Plan, SheetFault>
     ensures outcome { answered result ≡ decode sheet.now }
     ensures again { IfOk result (λ p. sheet_of p.layout ≡ sheet.now) }
     ensures kept { sheet.exit.now ≡ sheet.entry.now }
 {
-    let layout = valid_layout(sheet)?;
-    Ok(Plan { layout })
+    valid_plan(sheet)
 }

@@ -6,7 +6,8 @@ ghost use Rattle.sheet.specs.Rules.{breaks, extent_of, flaw_of, lowest_broken, s
 use crate::fault::{Flaw, SheetFault};
 use crate::layout::Layout;
 
-/// Each is asked of one route, lever or signal at a time.
+/// Each is asked of one route, lever or signal at a time. A value and no closure, since a sheet's survey and what is said of
+/// it speak of each rule by name.
 #[derive(Clone, Copy)]
 pub(crate) enum PlanRule {
     OneRouteASide,
@@ -63,10 +64,7 @@ impl PlanRule {
         ensures { judged layout.now result ≡ refuse self (lowest_broken layout.now self) (accepted layout.now) }
     {
         match self.first_broken(layout) {
-            Some(place) => Err(SheetFault {
-                flaw: self.flaw(),
-                place,
-            }),
+            Some(place) => Err(self.flaw().at(place)),
             None => Ok(()),
         }
     }

@@ -1,10 +1,13 @@
 //! All faults of a sheet at once.
-ghost use Rattle.std.specs.Prelude.{◌≡◌, ◌≤◌, [], ◌∷◌, length};
+ghost use Rattle.std.specs.Prelude.{◌≡◌, ◌≤◌, List, [], ◌∷◌, ◌++◌, length};
 ghost use Rattle.basics.specs.Adding.{Added};
+ghost use Rattle.basics.specs.declared.book.Book.{Book};
 ghost use Rattle.basics.specs.Books.{count_after, rows_after};
 ghost use Rattle.sheet.specs.Decode.{decode};
 ghost use Rattle.sheet.specs.Survey.{Agreeing, all_breaches, breaches, faults_of};
 ghost use Rattle.sheet.specs.Valid.{Few};
+ghost use Rattle.sheet.specs.declared.fault.SheetFault.{SheetFault};
+ghost use Rattle.sheet.specs.declared.rules.PlanRule.TheVariants.{OneRouteASide, LeversServe, SignalsServe};
 
 use crate::bits::BitReader;
 use crate::fault::SheetFault;
@@ -20,23 +23,18 @@ fn note(fault: SheetFault, book: &mut Book<'_, SheetFault>)
     let _ = book.add(fault);
 }
 
-// Every breach of one rule.
+// Every breach of one rule, behind whatever a book has had since it was the first.
 fn note_rule(rule: PlanRule, layout: &Layout, book: &mut Book<'_, SheetFault>) -> usize
     requires { Few layout.now.counts }
     ensures total { result ≡ length (breaches layout.now rule) }
     ensures small { result ≤ 32 }
-    ensures added { Added book.old book.new (breaches layout.now rule) }
+    ensures onward { (first : Book SheetFault) (ys : List SheetFault) → Added first book.old ys → Added first book.new (ys ++ breaches layout.now rule) }
 {
     let mut total = 0;
+    // With an `if`: over a filter's items the total's bound does not prove, since they are known only at the end.
     for place in 0..rule.extent(layout) {
         if rule.is_broken(layout, place) {
-            note(
-                SheetFault {
-                    flaw: rule.flaw(),
-                    place,
-                },
-                book,
-            );
+            note(rule.flaw().at(place), book);
             total += 1;
         }
     }
@@ -47,7 +45,8 @@ fn note_rule(rule: PlanRule, layout: &Layout, book: &mut Book<'_, SheetFault>) -
 fn note_rules(layout: &Layout, book: &mut Book<'_, SheetFault>) -> usize
     requires { Few layout.now.counts }
     ensures total { result ≡ length (all_breaches layout.now) }
-    ensures added { Added book.old book.new (all_breaches layout.now) }
+    ensures onward { (first : Book SheetFault) (ys : List SheetFault) → Added first book.old ys
+        → Added first book.new (ys ++ breaches layout.now OneRouteASide ++ breaches layout.now LeversServe ++ breaches layout.now SignalsServe) }
 {
     let sides = note_rule(PlanRule::OneRouteASide, layout, book);
     let levers = note_rule(PlanRule::LeversServe, layout, book);

@@ -2,7 +2,7 @@
 ghost use Rattle.std.specs.Prelude.{◌≡◌, ◌+◌, ◌-◌, ◌*◌, ◌/◌, ◌<◌, ◌≤◌, length, take, replicate, IfOk};
 ghost use Rattle.sheet.specs.Decode.{accepted, decode};
 ghost use Rattle.sheet.specs.Encode.{encode, filled, head_bits, route_bits, routes_bits, sheet_of, size_of};
-ghost use Rattle.sheet.specs.Valid.{Few, Sound};
+ghost use Rattle.sheet.specs.Valid.{Few};
 ghost use Rattle.sheet.specs.Writing.{HasRoom, Wrote, writing, written};
 
 use crate::bit_writer::BitWriter;
@@ -79,46 +79,38 @@ fn size(counts: Counts) -> usize
     27 + 11 * n + 2 * n * counts.points + n * n.saturating_sub(1) / 2
 }
 
-// The same in whole bytes.
-fn sheet_bytes(layout: &Layout) -> usize
-    requires { Few layout.now.counts }
-    ensures formula { result ≡ (size_of layout.now.counts + 7) / 8 }
-    ensures whole { result ≡ length (sheet_of layout.now) }
-{
-    (size(layout.counts) + 7) / 8
-}
-
-// The sheet into the front of a buffer, if it fits.
-fn write_layout(layout: &Layout, out: &mut [u8]) -> Result<usize, SheetFault>
-    requires { (Few layout.now.counts) × (Sound layout.now) }
-    ensures written { written result out.new ≡ writing layout.now out.old }
-    ensures back { IfOk result (λ n. decode (take n out.new) ≡ accepted layout.now) }
-{
-    if layout.counts.routes == 0 {
-        return Err(SheetFault {
-            flaw: Flaw::BlankPlan,
-            place: 0,
-        });
-    }
-    let bytes = sheet_bytes(layout);
-    if out.len() < bytes {
-        return Err(SheetFault {
-            flaw: Flaw::NoRoom,
-            place: 0,
-        });
-    }
-    let mut w = BitWriter { out, at: 0 };
-    put_sheet(&mut w, layout);
-    Ok(bytes)
-}
-
 impl Plan {
+    // The same in whole bytes.
+    fn sheet_bytes(&self) -> usize
+        ensures formula { result ≡ (size_of self.now.layout.counts + 7) / 8 }
+        ensures whole { result ≡ length (sheet_of self.now.layout) }
+    {
+        (size(self.layout.counts) + 7) / 8
+    }
+
+    // The sheet into the front of a buffer, if it fits.
+    fn write_sheet(&self, out: &mut [u8]) -> Result<usize, SheetFault>
+        ensures written { written result out.new ≡ writing self.now.layout out.old }
+        ensures back { IfOk result (λ n. decode (take n out.new) ≡ accepted self.now.layout) }
+    {
+        if self.layout.counts.routes == 0 {
+            return Err(Flaw::BlankPlan.at(0));
+        }
+        let bytes = self.sheet_bytes();
+        if out.len() < bytes {
+            return Err(Flaw::NoRoom.at(0));
+        }
+        let mut w = BitWriter { out, at: 0 };
+        put_sheet(&mut w, &self.layout);
+        Ok(bytes)
+    }
+
     /// How many bytes the plan's sheet has.
     pub fn sheet_len(&self) -> usize
         ensures formula { result ≡ (size_of self.now.layout.counts + 7) / 8 }
         ensures whole { result ≡ length (sheet_of self.now.layout) }
     {
-        sheet_bytes(&self.layout)
+        self.sheet_bytes()
     }
 
     /// Writes the plan's sheet to the front of a buffer and answers its length in bytes; read again, it is this plan.
@@ -127,6 +119,6 @@ impl Plan {
         ensures written { written result buffer.new ≡ writing self.now.layout buffer.old }
         ensures back { IfOk result (λ n. decode (take n buffer.new) ≡ accepted self.now.layout) }
     {
-        write_layout(&self.layout, buffer)
+        self.write_sheet(buffer)
     }
 }

@@ -1,4 +1,4 @@
-use Rattle.std.proofs.Common.{◌≡◌, ℕ, ◌+◌, ◌-◌, ◌<◌, List, [], length, take, get_or-take, sym, subst, arith}
+use Rattle.std.proofs.Common.{◌≡◌, ℕ, ◌+◌, ◌-◌, ◌<◌, List, length, take, get_or-take, sym, subst, arith}
 use Rattle.sheet.specs.Encode.{each, route_bits}
 use Rattle.sheet.specs.Layouts.{route_in}
 use Rattle.sheet.specs.Writing.{HasRoom, Wrote}

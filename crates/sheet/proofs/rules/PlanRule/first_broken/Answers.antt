@@ -1,4 +1,4 @@
-use Rattle.std.proofs.Common.{rules, sym, ◌∙◌}
+use Rattle.std.proofs.Common.{rules, ◌∙◌}
 use borrow.Author.Tests.{tests}
 use Rattle.basics.proofs.Scans.{lowest_ranged}
 use Rattle.sheet.specs.Rules.{breaks, extent_of}

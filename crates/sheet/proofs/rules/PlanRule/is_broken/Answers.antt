@@ -4,7 +4,7 @@ use Rattle.std.proofs.lemmas.Iterator.{YieldsList-from_slice}
 use Rattle.std.proofs.lemmas.Iterator.Search.{any_from_yields_List}
 use Rattle.std.specs.List.{list_any}
 use Rattle.basics.proofs.Scans.{any_rows}
-use Rattle.sheet.specs.Rules.{broken, has_lever, has_signal}
+use Rattle.sheet.specs.Rules.{has_lever, has_signal}
 use Rattle.sheet.specs.declared.layout.Route.{Route}
 use Rattle.sheet.proofs.Breaking.{breaks_there}
 use Rattle.sheet.proofs.rules.PlanRule.is_broken.Goals as goal

@@ -1,4 +1,4 @@
-use Rattle.sheet.proofs.reader.read.Goals as goal
+use Rattle.sheet.proofs.reader.valid_plan.Goals as goal
 
 pub invariant_of-result : goal.invariant_of-result
 invariant_of-result c =
