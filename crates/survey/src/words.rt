@@ -6,6 +6,7 @@ ghost use Rattle.survey.specs.Words.{counted_by, fault_line, fault_lines, holdin
 use sheet::fault::{Flaw, SheetFault};
 use std::fmt;
 
+// A function, as `Flaw` is another crate's and can have no Display of this one.
 fn meaning(flaw: Flaw) -> &'static str
     ensures { result.now ≡ meaning_of flaw }
 {

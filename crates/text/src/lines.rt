@@ -2,7 +2,7 @@
 ghost use Rattle.std.specs.Prelude.{◌≡◌};
 ghost use Rattle.std.specs.List.{position};
 ghost use Rattle.std.specs.Iterator.{YieldsFirstBy, item_count};
-ghost use Rattle.text.specs.Lines.{after_first_line, first_line, is_newline, lines_of};
+ghost use Rattle.text.specs.Lines.{after_first_line, first_line, is_newline, lines_left, lines_of};
 
 fn newline(text: &[u8]) -> Option<usize>
     ensures { result ≡ position is_newline text.now }
@@ -29,7 +29,7 @@ pub struct Lines<'a>(&'a [u8]);
 impl<'a> Lines<'a> {
     /// The lines of a text in their order; after a last newline there is none.
     pub fn of(text: &'a [u8]) -> Lines<'a>
-        ensures { lines_of result.0.now ≡ lines_of text.now }
+        ensures { lines_left result ≡ lines_of text.now }
     {
         Lines(text)
     }
@@ -38,9 +38,9 @@ impl<'a> Lines<'a> {
 impl<'a> Iterator for Lines<'a> {
     type Item = &'a [u8];
 
-    ghost next_gives = { YieldsFirstBy (λ line. line.now) (λ s. lines_of s.0.now) };
+    ghost next_gives = { YieldsFirstBy (λ line. line.now) lines_left };
 
-    ghost remaining = { item_count (λ s. lines_of s.0.now) };
+    ghost remaining = { item_count lines_left };
 
     #[tactic(auto, using(crate::proofs::Newlines::split))]
     fn next(&mut self) -> Option<&'a [u8]> {
