@@ -28,7 +28,8 @@ fn work(plan: Plan, entries: &mut [Entry])
     let _ = frame.close();
 }
 
-// Notes the calls of a text in rows from the front: how many found room, and whether all did.
+// Notes the calls of a text in rows from the front: how many found room, and whether all did. A pair, since both are asked of a book
+// that ends here, so that the rows can be worked.
 fn note_in(rows: &mut [Entry], calls: &[u8]) -> (usize, Result<(), BookFault>)
     ensures front { take result.0 rows.new ≡ take (length rows.old) (entries_of calls.now) }
     ensures within { result.0 ≤ length rows.old }
