@@ -30,7 +30,7 @@ side_of c = Some (cond (c == 0) Up Down)
 abbrev pub release_of : ℕ → Option Release
 release_of c = Some (cond (c == 0) Station Train)
 
--- code 3 stands for no demand
+-- what is demanded of a point, and nothing for code 3, which stands for no such thing
 abbrev pub demanded_by : ℕ → Option (Option Position)
 demanded_by c = cond (c == 0) (Some None) (cond (c == 1) (Some (Some Plus)) (cond (c == 2) (Some (Some Minus)) None))
 

@@ -23,7 +23,7 @@ fn note(fault: SheetFault, book: &mut Book<'_, SheetFault>)
     let _ = book.add(fault);
 }
 
-// Every breach of one rule, behind whatever a book has had since it was the first.
+// Every breach of one rule, behind all that the book has had since it was `first`.
 fn note_rule(rule: PlanRule, layout: &Layout, book: &mut Book<'_, SheetFault>) -> usize
     requires { Few layout.now.counts }
     ensures total { result ≡ length (breaches layout.now rule) }

@@ -19,10 +19,7 @@ mod tests {
     const FAULTS: [(u8, usize); 6] = [(7, 1), (7, 3), (8, 1), (8, 2), (9, 0), (9, 2)];
 
     fn number(answer: Result<u8, BookFault>) -> u8 {
-        match answer {
-            Ok(entry) => entry,
-            Err(fault) => fault.number(),
-        }
+        answer.unwrap_or_else(|fault| fault.number())
     }
 
     #[test]

@@ -148,10 +148,7 @@ mod tests {
          81ded2492492492492492f780000000000000000ffd0c30c30c30c30c300";
 
     fn answer(sheet: &[u8]) -> (u8, usize) {
-        match read(sheet) {
-            Ok(_) => (0, 0),
-            Err(fault) => (fault.flaw.number(), fault.place),
-        }
+        read(sheet).map_or_else(|fault| (fault.flaw.number(), fault.place), |_| (0, 0))
     }
 
     #[test]
@@ -179,10 +176,7 @@ mod tests {
     }
 
     fn worked_plan() -> Result<Plan, Fail> {
-        match read(&worked_sheet()) {
-            Ok(plan) => Ok(plan),
-            Err(_) => Err(Fail::new("the worked sheet is refused")),
-        }
+        read(&worked_sheet()).map_err(|_| Fail::new("the worked sheet is refused"))
     }
 
     #[test]
@@ -224,10 +218,10 @@ mod tests {
     }
 
     fn written(plan: &Plan, buffer: &mut [u8]) -> (u8, usize) {
-        match plan.write(buffer) {
-            Ok(length) => (0, length),
-            Err(fault) => (fault.flaw.number(), fault.place),
-        }
+        plan.write(buffer).map_or_else(
+            |fault| (fault.flaw.number(), fault.place),
+            |length| (0, length),
+        )
     }
 
     #[test]

@@ -1,15 +1,9 @@
-use Rattle.std.proofs.Common.{◌+◌, ◌-◌, ◌*◌, ◌≤◌, sym, ◌∙◌, mul-le-mul, arith, rules}
+use Rattle.std.proofs.Common.{◌+◌, ◌-◌, ◌*◌, ◌≤◌, sym, ◌∙◌, arith, rules}
 use Rattle.std.proofs.Math.Nat.{mul-le-mul_left}
 use Rattle.std.proofs.lemmas.List.{length-set}
 use Rattle.sheet.specs.Fields.{coded_at}
 use Rattle.sheet.proofs.Filled.{fill_more, fill_stop, wider}
 use Rattle.sheet.proofs.reader.row.Goals as goal
-
-pub coded-requires : goal.coded-requires
-coded-requires g c =
-    let far : c.loop-k.k - c.args.places.start ≤ 32 = omega arith in
-    let m : g.T.Coded.WIDTH * (c.loop-k.k - c.args.places.start) ≤ 2 * 32 = mul-le-mul g.met.T.Coded.agree.narrow.1 far in
-    omega arith
 
 pub returns-in_err-row : goal.returns-in_err-row
 returns-in_err-row g c =

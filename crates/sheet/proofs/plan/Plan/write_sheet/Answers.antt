@@ -1,16 +1,7 @@
-use Rattle.std.proofs.Common.{◌≡◌, false, eqb, leb, length, refl, arith, rules}
-use Rattle.std.proofs.lemmas.Bool.{ne_eqb, lt-leb}
-use Rattle.sheet.specs.Encode.{sheet_of}
+use Rattle.std.proofs.Common.{refl, arith, rules}
 use Rattle.sheet.proofs.Round.{written_so, reads_back}
 use Rattle.sheet.proofs.Sheets.{length_is_size, length_sheet, size_small, sheet_written}
 use Rattle.sheet.proofs.plan.Plan.write_sheet.Goals as goal
-
-pub returns-then-out-bytes : goal.returns-then-out-bytes
-returns-then-out-bytes c =
-    let b : eqb c.args.self.now.layout.counts.routes 0 ≡ false = ne_eqb _ _ c.if-self-eq0.false in
-    let v = c.sheet_bytes-bytes.ensures.whole in
-    let t : leb (length (sheet_of c.args.self.now.layout)) (length c.args.out.now) ≡ false = lt-leb _ _ (omega arith) in
-    record { written = rw (c.at-then-out-bytes.ensures, b, t); back = tt }
 
 pub put_sheet-requires : goal.put_sheet-requires
 put_sheet-requires c =
