@@ -1,5 +1,6 @@
 -- Rows that are filled item by item, and zeros that are passed one by one.
-use Rattle.std.proofs.Common.{◌≡◌, ℕ, zero, suc, ◌+◌, ◌-◌, ◌*◌, ◌<◌, ◌≤◌, mul-suc, Bool, true, false, not, cond, eqb, List, set, Some, None, Option, add-zero, ap, ◌∙◌, arith}
+use Rattle.std.proofs.Common.{◌≡◌, ℕ, zero, suc, ◌+◌, ◌-◌, ◌*◌, ◌<◌, ◌≤◌, mul-suc, Bool, true, false, not, cond, eqb, List, ◌++◌, length, set, Some, None, Option, add-zero, sym, ap, ◌∙◌, arith}
+use Rattle.std.proofs.lemmas.List.{set-append_left}
 use Rattle.std.specs.List.{find, range_with_len}
 use Rattle.std.specs.Option.{MatchOption}
 use Rattle.sheet.specs.Bits.{Read, done, fault, bit_of}
@@ -16,6 +17,13 @@ module _ {A : Type 0} (one : ℕ → List ℕ → ℕ → Read A) (s : List ℕ)
   -- a fault at an item
   pub fill_stop : (w : Flaw) (p : ℕ) → k < n → fault w p ≡ one k s i → fill one s i (n - k) k row ≡ fault w p
   fill_stop w p h e = let m : n - k ≡ suc (n - (k + 1)) = omega arith in rw (m, ← e)
+
+  -- one item more in front of others
+  pub front_more : (tail : List A) (a : A) (t : List ℕ) (j : ℕ) → k < n → k < length row → done a t j ≡ one k s i
+      → fill one t j (n - (k + 1)) (k + 1) (set row k a ++ tail) ≡ fill one s i (n - k) k (row ++ tail)
+  front_more tail a t j h l e =
+      ap (fill one t j (n - (k + 1)) (k + 1)) (sym (set-append_left row tail k a l))
+      ∙ sym (let m : n - k ≡ suc (n - (k + 1)) = omega arith in rw (m, ← e))
 
 -- one item more of a width
 pub wider : (w start k : ℕ) → start ≤ k → w * (k + 1 - start) ≡ w * (k - start) + w

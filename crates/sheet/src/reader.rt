@@ -43,7 +43,7 @@ fn row<T: Coded>(
     ensures { Reads bits.old result bits.new (row_at T.WIDTH T.value_of blank places.start places.end) (T.WIDTH * (places.end - places.start)) }
 {
     let mut row = [blank; 32];
-    // By number, since no proof is made of a loop over `&mut row[places]`.
+    // By number, since no proof is made of a loop over a part of a row of any kind of value.
     for k in places.start..places.end {
         row[k] = bits.coded()?;
     }
@@ -80,9 +80,9 @@ fn routes(bits: &mut BitReader, counts: Counts) -> Result<[Route; 32], SheetFaul
     ensures within { IfOk result (WithinTo counts.routes counts) }
 {
     let mut rows = [NO_ROUTE; 32];
-    // By number, as in `row`.
-    for k in 0..counts.routes {
-        rows[k] = route(bits, counts, k)?;
+    let front = &mut rows[..counts.routes];
+    for (k, place) in front.iter_mut().enumerate() {
+        *place = route(bits, counts, k)?;
     }
     Ok(rows)
 }
