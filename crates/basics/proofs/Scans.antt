@@ -1,6 +1,6 @@
 -- Scans, number by number.
 use Rattle.std.proofs.Common.{◌≡◌, ℕ, zero, suc, ◌+◌, ◌<◌, ◌≤◌, Bool, true, false, cond, ◌||◌, ◌⊎◌, List, [], ◌∷◌, ◌++◌, map, length, take, get_or, not, ltb, eqb, Some, None, Option, sym, refl, ap, ◌∙◌, inl, inr, ⊎_elim, add-one, arith}
-use Rattle.std.proofs.lemmas.Bool.{or_from, or_left, or_right, or_parts, cases_eq, cases_lt, lt-ltb, le-ltb, eq-eqb, ne_eqb}
+use Rattle.std.proofs.lemmas.Bool.{or_left, or_right, or_parts, cases_eq, cases_lt, lt-ltb, le-ltb, eq-eqb, ne_eqb}
 use Rattle.std.proofs.lemmas.List.{map-id, length-append, length-take, take_more}
 use Rattle.std.proofs.lemmas.List.FromFn.{map-range_with_len_more}
 use Rattle.std.proofs.lemmas.List.Folds.{list_any-append, list_any_more, find-append, position_or_len_push}
@@ -20,9 +20,6 @@ use denote.Ref.{Bor}
 use Rattle.basics.specs.Scan.{any, lowest, or_else}
 
 module _ (f : ℕ → Bool) where
-  pub any_more : (i : ℕ) → any f i ≡ false → f i ≡ false → any f (i + 1) ≡ false
-  any_more i h t = rw add-one (or_from (any f i) (f i) h t)
-
   pub any_hit : (n k : ℕ) → k < n → f k ≡ true → any f n ≡ true
   any_hit zero k l t = absurd (omega arith)
   any_hit (suc n) k l t =
@@ -33,9 +30,6 @@ module _ (f : ℕ → Bool) where
   any_none (suc n) k h l =
       let p = or_parts (any f n) (f n) h in
       ⊎_elim (λ e. ap f e ∙ p.1) (λ ne. any_none n k p.0 (omega arith)) (cases_eq k n)
-
-  pub lowest_more : (i : ℕ) → lowest f i ≡ None → f i ≡ false → lowest f (i + 1) ≡ None
-  lowest_more i h t = rw (add-one, h, t)
 
   pub lowest_hit : (n k : ℕ) → k < n → lowest f k ≡ None → f k ≡ true → lowest f n ≡ Some k
   lowest_hit zero k l h t = absurd (omega arith)

@@ -1,5 +1,5 @@
 -- A book: rows that are filled from the front. What each call answers and leaves, of the rows and of how many are filled.
-use Rattle.std.specs.Prelude.{◌≡◌, ℕ, ◌+◌, ◌-◌, Bool, cond, List, ◌++◌, length, take, drop, Some, None, Ok, Err, Option, Result, nat_lt, slice_set}
+use Rattle.std.specs.Prelude.{ℕ, ◌+◌, ◌-◌, Bool, cond, List, ◌++◌, length, take, drop, Some, None, Ok, Err, Option, Result, nat_lt, slice_set}
 use Rattle.basics.specs.declared.book.BookFault.{BookFault}
 use Rattle.basics.specs.declared.book.BookFault.TheVariants.{Full, NoSuchPlace}
 
@@ -37,7 +37,3 @@ rows_after xs n ys = take n xs ++ (fitting xs n ys ++ drop (n + length ys) xs)
 
 abbrev pub count_after : {X : Type 0} → List X → ℕ → List X → ℕ
 count_after xs n ys = n + length (fitting xs n ys)
-
--- the rows, and how many are filled, once the entries ys have been added to rows xs with n filled
-abbrev pub Since : {X : Type 0} → List X → ℕ → List X → List X → ℕ → Type 0
-Since xs n ys later m = (later ≡ rows_after xs n ys) × (m ≡ count_after xs n ys)

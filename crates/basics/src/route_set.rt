@@ -2,6 +2,7 @@
 ghost use Rattle.std.specs.Prelude.{◌≡◌, length};
 ghost use Rattle.basics.specs.RouteSets.{member};
 
+// Thirty-two truth values and no set of numbers, since the field crates have no heap.
 #[derive(Clone, Copy, Debug, PartialEq, Eq)]
 pub struct RouteSet {
     members: [bool; 32],

@@ -141,6 +141,7 @@ pub fn check(passes: bool, fault: FrameFault, place: usize) -> Answer
 }
 
 /// What a call is answered that the block has answered so.
+// No `From`, since a place comes with what the block said.
 pub fn from_block(said: Result<(), BlockFault>, place: usize) -> Answer
     ensures { result ≡ from_block said place }
 {

@@ -2,7 +2,8 @@
 ghost use Rattle.std.specs.Prelude.{◌≡◌};
 ghost use Rattle.board.specs.Boards.{coupled_again, dropped, fails, fresh, hinders, is_clear, is_held, is_pulled, is_trailed, other_way, released, thrown, toward, trailed_here};
 
-use sheet::layout::{Position, Side};
+pub use sheet::layout::Position;
+use sheet::layout::Side;
 
 /// Whether a point moves with its lever.
 #[derive(Clone, Copy, Debug, PartialEq, Eq)]
@@ -122,6 +123,7 @@ impl Stage {
 }
 
 /// A signal lever: normal, or pulled with the arm at clear or fallen.
+// An enum of its own, as `Lever` is.
 #[derive(Clone, Copy, Debug, PartialEq, Eq)]
 pub enum Arm {
     Normal,
@@ -154,6 +156,7 @@ impl Arm {
 }
 
 /// All that moves, as many of each as a plan can have.
+// Arrays with room for the most, since the field crates have no heap.
 #[derive(Clone, Copy, Debug, PartialEq, Eq)]
 pub struct Board {
     pub points: [Point; 32],

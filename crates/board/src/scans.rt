@@ -75,7 +75,8 @@ impl Board {
         self.signals[route.signal] = self.signals[route.signal].dropped();
     }
 
-    // Drops each arm at clear whose set route demands a point. A loop, since each step changes the board that the next one asks.
+    // Drops each arm at clear whose set route demands a point. A loop, since each step changes the board that the next one
+    // asks.
     pub(crate) fn drop_arms(&mut self, plan: &Plan, p: usize)
         requires { p < 32 }
         ensures { self.new ≡ with_signals self.old (fell plan.now.layout self.old p plan.now.layout.counts.routes) }

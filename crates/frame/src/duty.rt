@@ -12,7 +12,8 @@ use block::interface::Block;
 use board::answer::{self, Answer, FrameFault};
 use sheet::plan::Plan;
 
-// Apart from `law_stands`, so that a wrong one is refused where it stands. Both answer a number, as a wrong one has to have something to get wrong.
+// Apart from `law_stands`, so that a wrong one is refused where it stands. Both answer a number, as a wrong one has to have
+// something to get wrong.
 fn law_holds() -> u8
     ensures law { Law }
     ensures calls { CallsGoOn }

@@ -47,6 +47,7 @@ mod tests {
         Row(b'g', 3, 11, 3),
     ];
 
+    // The tests of sheet have the same line; crates of tests share nothing.
     fn worked_plan() -> Result<Plan, Fail> {
         read(&worked_sheet()).map_err(|_| Fail::new("the worked sheet is refused"))
     }

@@ -1,5 +1,5 @@
 -- The breaches of a rule, one by one, and that they agree with what reading refuses.
-use Rattle.std.proofs.Common.{◌≡◌, ℕ, zero, suc, ◌+◌, ◌≤◌, Bool, true, false, cond, List, [], ◌∷◌, ◌++◌, map, Some, None, Option, sym, refl, ap, ◌∙◌, subst, add-one, arith}
+use Rattle.std.proofs.Common.{◌≡◌, ℕ, zero, suc, ◌+◌, Bool, true, false, cond, List, [], ◌∷◌, ◌++◌, map, Some, None, Option, sym, refl, ap, ◌∙◌, subst, add-one}
 use Rattle.std.proofs.lemmas.List.{append_assoc, append-nil, map_push}
 use Rattle.basics.specs.Scan.{lowest, or_else, passing}
 use Rattle.sheet.specs.Bits.{Read, done, fault}
@@ -7,7 +7,6 @@ use Rattle.sheet.specs.Fields.{layout_at}
 use Rattle.sheet.specs.Rules.{broken, extent_of, flaw_of, lowest_broken}
 use Rattle.sheet.specs.Decode.{Outcome, accepted, refuse, ruled, settled, decode}
 use Rattle.sheet.specs.Survey.{breaches, breaches_to, all_breaches, surveyed, faults_of, Agreeing}
-use Rattle.sheet.specs.Valid.{Few}
 use Rattle.sheet.specs.declared.fault.SheetFault.{SheetFault}
 use Rattle.sheet.specs.declared.rules.PlanRule.{PlanRule}
 use Rattle.sheet.specs.declared.rules.PlanRule.TheVariants.{OneRouteASide, LeversServe, SignalsServe}
@@ -19,12 +18,6 @@ module _ (l : Layout) (r : PlanRule) (k : ℕ) where
 
   pub breach_none : broken l r k ≡ false → breaches_to l r (k + 1) ≡ breaches_to l r k
   breach_none t = let a = append-nil (passing (broken l r) k) in rw (add-one, t, a)
-
--- no rule is asked of more than thirty-two
-pub extent_few : (l : Layout) (r : PlanRule) → Few l.counts → extent_of l r ≤ 32
-extent_few l OneRouteASide h = h.3
-extent_few l LeversServe h = omega (arith, h.2)
-extent_few l SignalsServe h = h.1
 
 -- what the parts of a reading say of all faults
 module _ (s t : List ℕ) (i : ℕ) (e : t ≡ s) (z : i ≡ 0) where

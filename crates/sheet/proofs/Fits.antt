@@ -5,7 +5,8 @@ use Rattle.std.proofs.lemmas.Bool.{and_parts, leb-true, eqb-true}
 use Rattle.std.proofs.lemmas.List.{length-set, get_or-set_same, get_or-set_other}
 use Rattle.sheet.specs.Bits.{Read, done, fault, next, field_at}
 use Rattle.sheet.specs.Fields.{edition_at, count_at, counts_at, number_at, meant, coded_at, demand_at, flag_at, side_at, release_at, fill, demands_at, named_at, route_at}
-use Rattle.sheet.specs.Codes.{Agree, side_code, release_code, demand_code, flag_code, side_agree, release_agree, demand_agree, flag_agree}
+use Rattle.sheet.specs.Codes.{Agree, side_code, release_code, demand_code, flag_code}
+use Rattle.sheet.specs.CodesAgree.{side_agree, release_agree, demand_agree, flag_agree}
 use Rattle.sheet.specs.Encode.{bits_of, each, counts_bits, demand_bits, named_bits, route_bits}
 use Rattle.sheet.specs.declared.fault.Flaw.TheVariants.{WrongEdition, CountOutside, NumberTooHigh}
 use Rattle.sheet.specs.declared.layout.Side.{Side}

@@ -45,9 +45,6 @@ pub record Going (w₀ w : BitWriter) (rest all : List ℕ) : Type 0 where
   pub size : length w.out.now ≡ length w₀.out.now
   pub lender : w.out.ghost_name ≡ w₀.out.ghost_name
 
-pub going_start : (w : BitWriter) (xs : List ℕ) → Going w w xs xs
-going_start w xs = record { bytes = refl; after = refl; size = refl; lender = refl }
-
 pub going_more : {w₀ w w' : BitWriter} {xs rest all : List ℕ} → Going w₀ w (xs ++ rest) all → Wrote w w' xs → Going w₀ w' rest all
 going_more {w₀} {w} {w'} {xs} {rest} {all} g x =
     let e = put-append w.out.now w.at xs rest in
@@ -57,11 +54,6 @@ going_more {w₀} {w} {w'} {xs} {rest} {all} g x =
       size = x.size ∙ g.size;
       lender = x.lender ∙ g.lender;
     }
-
-pub going_done : {w₀ w : BitWriter} {rest all : List ℕ} → Going w₀ w rest all → rest ≡ [] → Wrote w₀ w all
-going_done {w₀} {w} {rest} {all} g e =
-    let z = ap length e in
-    record { bytes = rw e at g.bytes; after = omega (arith, g.after, z); size = g.size; lender = g.lender }
 
 -- room for all of it is room for what comes first of the rest
 pub room_more : {w₀ w : BitWriter} {all : List ℕ} (xs rest : List ℕ) → Going w₀ w (xs ++ rest) all → HasRoom w₀ (length all) → HasRoom w (length xs)

@@ -1,5 +1,5 @@
 -- The number that some bits make, bit by bit.
-use Rattle.std.proofs.Common.{◌≡◌, ℕ, zero, suc, ◌+◌, ◌-◌, ◌*◌, ◌/◌, ◌%◌, ◌^◌, ◌<◌, ◌≤◌, List, get_or, add-one, arith, pow_mono}
+use Rattle.std.proofs.Common.{ℕ, zero, suc, ◌+◌, ◌-◌, ◌/◌, ◌%◌, ◌^◌, ◌<◌, ◌≤◌, List, get_or, arith, pow_mono}
 use native.Mathlib.Nat.{two-pow-succ}
 use Rattle.std.proofs.lemmas.Nat.{mod_below}
 use Rattle.sheet.specs.Bits.{bit_of, value_of}
@@ -10,9 +10,6 @@ bit_lt s i = mod_below (get_or s (i / 8) 0 / 2 ^ (7 - i % 8)) 2 (omega arith)
 pub value_lt : (s : List ℕ) (i k : ℕ) → value_of s i k < 2 ^ k
 value_lt s i zero = omega arith
 value_lt s i (suc k) = omega (arith, value_lt s i k, bit_lt s (i + k), two-pow-succ k)
-
-pub value_more : (s : List ℕ) (i k : ℕ) → value_of s i (k + 1) ≡ value_of s i k * 2 + bit_of s (i + k)
-value_more s i k = rw add-one
 
 -- a field of at most eight bits is a byte
 pub value_fits : (s : List ℕ) (i k : ℕ) → k ≤ 8 → value_of s i k < 256

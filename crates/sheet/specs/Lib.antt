@@ -4,6 +4,7 @@ pub mod Faults
 pub mod Bits
 pub mod Layouts
 pub mod Codes
+pub mod CodesAgree
 pub mod Fields
 pub mod Rules
 pub mod Decode

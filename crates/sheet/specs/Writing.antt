@@ -34,7 +34,7 @@ put bytes n (b ∷ bs) = put (slice_set bytes (n / 8) (slice_index bytes (n / 8)
 abbrev pub HasRoom : BitWriter → ℕ → Type 0
 HasRoom w n = (w.at + n ≤ 8 * length w.out.now) × (w.at + n ≤ 4000)
 
--- bits were written by a writer w, which is w' then: into the lender's same buffer
+-- w' is the writer w after it has written the bits xs, over the same lender's buffer
 pub record Wrote (w w' : BitWriter) (xs : List ℕ) : Type 0 where
   pub bytes : w'.out.now ≡ put w.out.now w.at xs
   pub after : w'.at ≡ w.at + length xs

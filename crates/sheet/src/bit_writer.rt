@@ -6,6 +6,7 @@ ghost use Rattle.sheet.specs.Writing.{HasRoom, Wrote};
 use crate::coded::Coded;
 
 /// A buffer, and the bit that is written next. Each bit pushes its byte up by one, so nothing need be cleared first.
+// The lender's buffer and a place beside it, since the field crates have no heap.
 #[derive(Drop)]
 pub(crate) struct BitWriter<'a> {
     pub(crate) out: &'a mut [u8],
@@ -29,7 +30,7 @@ impl BitWriter<'_> {
         requires room { HasRoom self.old width }
         ensures { Wrote self.old self.new (bits_of width value) }
     {
-        // Over the places of the bits in the value, from the top.
+        // Over the places of the bits in the value, from the top: numbers that index nothing.
         for k in (0..width).rev() {
             self.push(((value >> k) % 2) as u8);
         }

@@ -15,6 +15,7 @@ pub(crate) struct BitReader<'a> {
     at: usize,
 }
 
+// Each asks that it begins within 4,000 bits: a ghost field could not say so, since a reading moves on.
 impl<'a> BitReader<'a> {
     pub(crate) fn new(bytes: &'a [u8]) -> Self
         ensures sheet { result.bytes.now ≡ bytes.now }
@@ -27,11 +28,9 @@ impl<'a> BitReader<'a> {
     fn bit(&self, i: usize) -> u8
         ensures { result ≡ bit_of self.now.bytes.now i }
     {
-        if i / 8 < self.bytes.len() {
-            (self.bytes[i / 8] >> (7 - i % 8)) % 2
-        } else {
-            0
-        }
+        self.bytes
+            .get(i / 8)
+            .map_or(0, |byte| (*byte >> (7 - i % 8)) % 2)
     }
 
     // The next `width` bits as a number.
@@ -98,7 +97,7 @@ impl<'a> BitReader<'a> {
         Ok(n)
     }
 
-    // A field that is a code; only a point's may stand for nothing.
+    // A field that is a code; only a point's may stand for no value.
     pub(crate) fn coded<T: Coded>(&mut self) -> Result<T, SheetFault>
         requires { self.old.at ≤ 4000 }
         ensures { Reads self.old result self.new (coded_at T.WIDTH T.value_of) T.WIDTH }

@@ -1,9 +1,11 @@
 //! Values that stand in a sheet as codes of a width.
 ghost use Rattle.std.specs.Prelude.{◌≡◌, ℕ, Option};
-ghost use Rattle.sheet.specs.Codes.{Agree, demand_agree, demand_code, demanded_by, flag_agree, flag_code, flag_of, release_agree, release_code, release_of, side_agree, side_code, side_of};
+ghost use Rattle.sheet.specs.Codes.{Agree, demand_code, demanded_by, flag_code, flag_of, release_code, release_of, side_code, side_of};
+ghost use Rattle.sheet.specs.CodesAgree.{demand_agree, flag_agree, release_agree, side_agree};
 
 use crate::layout::{Position, Release, Side};
 
+// A trait of its own, since `bool` and `Option` are not this crate's to give a `TryFrom`.
 pub(crate) trait Coded: Copy {
     ghost WIDTH: { ℕ };
 

@@ -39,6 +39,7 @@ impl Plan {
             || clash(a, b, self.layout.counts.points)
     }
 
+    // Apart from `hostile`, so that a wrong one is refused where it stands.
     fn are_hostile(&self, r: usize, q: usize) -> bool
         ensures value { result ≡ are_hostile self.now.layout r q }
         ensures symmetric { result ≡ are_hostile self.now.layout q r }

@@ -22,6 +22,7 @@ pub enum Position {
     Minus = 2,
 }
 
+// Room for the most points and routes that there can be, since the field crates have no heap.
 #[derive(Clone, Copy, Debug, PartialEq, Eq)]
 pub struct Route {
     pub lever: usize,
@@ -52,6 +53,8 @@ pub struct Counts {
     pub routes: usize,
 }
 
+// Room for the most routes, and the counts beside it, since the field crates have no heap. That the counts are few is asked where it is
+// needed and kept by a plan, since the definitions build layouts of any counts.
 #[derive(Clone, Copy, Debug, PartialEq, Eq)]
 pub struct Layout {
     pub counts: Counts,

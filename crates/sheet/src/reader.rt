@@ -43,7 +43,7 @@ fn row<T: Coded>(
     ensures { Reads bits.old result bits.new (row_at T.WIDTH T.value_of blank places.start places.end) (T.WIDTH * (places.end - places.start)) }
 {
     let mut row = [blank; 32];
-    // By number, since no proof is made of a loop over a part of a row of any kind of value.
+    // By number: no proof is made of a loop over `&mut row[places]` for any `T`.
     for k in places.start..places.end {
         row[k] = bits.coded()?;
     }
@@ -111,6 +111,7 @@ fn valid_layout(sheet: &[u8]) -> Result<Layout, SheetFault>
     Ok(layout)
 }
 
+// Apart from `read`, so that a wrong one is refused where it stands.
 fn valid_plan(sheet: &[u8]) -> Result<Plan, SheetFault>
     ensures outcome { answered result ≡ decode sheet.now }
     ensures again { IfOk result (λ p. sheet_of p.layout ≡ sheet.now) }

@@ -63,11 +63,8 @@ impl PlanRule {
         requires { layout.now.counts.routes ≤ 32 }
         ensures { judged layout.now result ≡ refuse self (lowest_broken layout.now self) (accepted layout.now) }
     {
-        // What is found is refused: the other way round from what `ok_or` makes of an option.
-        match self.first_broken(layout) {
-            Some(place) => Err(self.flaw().at(place)),
-            None => Ok(()),
-        }
+        self.first_broken(layout)
+            .map_or(Ok(()), |place| Err(self.flaw().at(place)))
     }
 }
 

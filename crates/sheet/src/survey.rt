@@ -70,6 +70,7 @@ fn note_faults(sheet: &[u8], book: &mut Book<'_, SheetFault>) -> usize
 }
 
 /// Adds all faults of a sheet to a book, in their order, as many as fit, and answers how many there are.
+// What `Added` says, clause by clause, as callers have cited it; the work is apart, so that a wrong one here is refused here.
 pub fn survey(sheet: &[u8], book: &mut Book<'_, SheetFault>) -> usize
     ensures total { result ≡ length (faults_of sheet.now) }
     ensures written { book.new.rows.now ≡ rows_after book.old.rows.now book.old.count (faults_of sheet.now) }

@@ -80,7 +80,7 @@ fn size(counts: Counts) -> usize
 }
 
 impl Plan {
-    // The same in whole bytes.
+    // The same in whole bytes. Apart from `sheet_len`, as `write_sheet` is from `write`, so that a wrong one is refused where it stands.
     fn sheet_bytes(&self) -> usize
         ensures formula { result ≡ (size_of self.now.layout.counts + 7) / 8 }
         ensures whole { result ≡ length (sheet_of self.now.layout) }

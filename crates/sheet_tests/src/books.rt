@@ -31,7 +31,7 @@ mod tests {
         assert!(rt; book.add(5).is_ok());
         assert_eq!(rt; (number(book.entry(0)), number(book.entry(1))), (5, 11));
         assert!(rt; book.add(6).is_ok());
-        assert!(rt; matches!(book.add(7), Err(BookFault::Full)));
+        assert_eq!(rt; book.add(7), Err(BookFault::Full));
         assert_eq!(rt;
             (BookFault::Full.number(), book.count(), book.entries().len()),
             (37, 2, 2)

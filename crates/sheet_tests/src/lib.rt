@@ -175,6 +175,7 @@ mod tests {
         Ok(())
     }
 
+    // The tests of frame have the same line; crates of tests share nothing.
     fn worked_plan() -> Result<Plan, Fail> {
         read(&worked_sheet()).map_err(|_| Fail::new("the worked sheet is refused"))
     }

@@ -47,6 +47,7 @@ fn faults_report(
 fn fault_report(heap: Global, sheet: &[u8]) -> Result<String, AllocError>
     ensures { IfOk result (λ s. string_bytes s ≡ fault_report sheet.now (faults_of sheet.now)) }
 {
+    // The rows of a book, which are lent to it as everywhere.
     let mut rows = [UNUSED; 96];
     let mut book = Book::new(&mut rows);
     let total = survey(sheet, &mut book);

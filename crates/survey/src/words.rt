@@ -26,7 +26,7 @@ fn meaning(flaw: Flaw) -> &'static str
     }
 }
 
-// What a fault's place counts, where that is not bits.
+// What a fault's place counts, where that is not bits. A function, as `meaning` is.
 fn counted(flaw: Flaw) -> Option<&'static str>
     ensures { option_map (λ x. x.now) result ≡ counted_by flaw }
 {
@@ -43,7 +43,7 @@ fn route_at(points: usize, routes: usize, bit: usize) -> Option<usize>
     requires { (points < 64) × (routes < 64) }
     ensures { result ≡ holding points routes bit routes 0 27 }
 {
-    // A loop, as the fields end where a sum stands by now: `scan` would change the same number in a closure.
+    // A loop, since a route's fields end at a running sum, which `scan` would keep in a closure.
     let mut end = 27;
     for r in 0..routes {
         end += 11 + 2 * points + (routes - (r + 1));

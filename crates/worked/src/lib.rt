@@ -6,6 +6,7 @@ ghost use Rattle.worked.specs.Worked.{ExamplesStand, worked_duty};
 
 use frame::entry::Entry;
 
+// Apart from `worked_duty`, so that a wrong one is refused where it stands.
 fn calls() -> [Entry; 19]
     ensures calls { result ≡ worked_duty }
     ensures examples { ExamplesStand }
