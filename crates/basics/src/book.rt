@@ -41,6 +41,7 @@ impl<'a, T: Copy> Book<'a, T> {
     }
 
     /// Adds an entry behind the others; a full book refuses it.
+    // What `Added` says of other additions, clause by clause: its file names `Book`, so this one cannot name it.
     pub fn add(&mut self, entry: T) -> Result<(), BookFault>
         ensures answer { result ≡ add_answer self.old.rows.now self.old.count }
         ensures written { self.new.rows.now ≡ rows_with self.old.rows.now self.old.count entry }
