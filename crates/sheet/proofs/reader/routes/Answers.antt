@@ -3,7 +3,7 @@ use Rattle.std.proofs.lemmas.List.{length-set, length-take-le, take-append-drop}
 use Rattle.sheet.specs.Fields.{route_at}
 use Rattle.sheet.specs.Layouts.{no_route}
 use Rattle.sheet.proofs.Filled.{front_more, fill_stop}
-use Rattle.sheet.proofs.Validity.{within_front, within_more}
+use Rattle.sheet.proofs.Validity.{within_more}
 use Rattle.sheet.proofs.reader.routes.Goals as goal
 
 pub loop-k-init : goal.loop-k-init
@@ -28,11 +28,3 @@ loop-k-preserved c = (
   length-set _ _ _ ∙ c.loop-k.invariant.2,
   within_more c.loop-k.k c.args.counts c.loop-k.front c.in_ok-place.field-0 (omega arith) c.loop-k.invariant.3 c.in_ok-place.ensures.within,
 )
-
-pub returns-clause-read : goal.returns-clause-read
-returns-clause-read c =
-    let z : c.args.counts.routes - c.loop-k.k ≡ 0 = omega arith in
-    record { value = rw z at c.loop-k.invariant.0; near = omega arith }
-
-pub returns-clause-within : goal.returns-clause-within
-returns-clause-within c = within_front c.args.counts.routes c.args.counts c.loop-k.front (drop c.args.counts.routes (replicate 32 no_route)) c.loop-k.invariant.2 (λ r h. c.loop-k.invariant.3 r (omega arith))

@@ -1,12 +1,8 @@
 use Rattle.std.proofs.Common.{arith}
 use Rattle.frame.specs.Views.{view}
-use Rattle.frame.proofs.Runs.{left_more, left_none}
+use Rattle.frame.proofs.Runs.{left_none}
 use Rattle.frame.proofs.GoesOn.{goes_on_noted, goes_on_each-noted}
 use Rattle.frame.proofs.frame.Frame.work_all.Goals as goal
-
-pub loop-entry-preserved : goal.loop-entry-preserved
-loop-entry-preserved g c =
-    left_more c.args.entries.now _ c.loop-entry.entries c.loop-entry.entry-index _ _ c.work_entry.new.entry (omega arith) c.work_entry.ensures.noted c.work_entry.ensures.after c.loop-entry.invariant
 
 pub returns : goal.returns
 returns g c =
