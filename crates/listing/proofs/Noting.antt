@@ -1,6 +1,6 @@
 -- Calls into a book, line by line.
-use Rattle.std.proofs.Common.{◌≡◌, ℕ, suc, ◌+◌, ◌-◌, ◌<◌, ◌≤◌, true, ltb, leb, List, [], ◌∷◌, length, take, drop, Ok, ap, ◌∙◌, ⊎_elim, arith}
-use Rattle.std.proofs.lemmas.List.{length-set, length-take, take_at}
+use Rattle.std.proofs.Common.{◌≡◌, ℕ, suc, ◌+◌, ◌-◌, ◌<◌, true, ltb, leb, List, [], ◌∷◌, length, Ok, ⊎_elim, arith}
+use Rattle.std.proofs.lemmas.List.{length-set}
 use Rattle.std.proofs.lemmas.Bool.{cases_lt, le-ltb, lt-ltb}
 use Rattle.std.proofs.lemmas.Bool.Decides.{nat_tests}
 use Rattle.basics.proofs.Adds.{count_joined, count-one, rows_joined, rows_one}
@@ -33,14 +33,3 @@ module _ (xs : List Entry) (n : ℕ) (y : Entry) (ys zs xs' : List Entry) (n' : 
   pub noted_more : Ok tt ≡ add_answer xs n
       → (noting_answer xs' n' zs ≡ noting_answer xs n ys) × (rows_after xs' n' zs ≡ rows_after xs n ys) × (count_after xs' n' zs ≡ count_after xs n ys)
   noted_more o = (answer_more o, rows_more, count_more)
-
--- what stands in the first rows of a book that was empty
-module _ (xs rows es rows' : List Entry) (n n' : ℕ) (e : rows ≡ xs) (z : n ≡ 0) (w : rows' ≡ rows_after rows n es) (f : n' ≡ count_after rows n es) where
-  pub noted_front : take n' rows' ≡ take (length xs) es
-  noted_front =
-      let m : length xs - 0 ≡ length xs = omega arith in
-      let t = take_at (take (length xs - 0) es) (drop (0 + length es) xs) (0 + length (take (length xs - 0) es)) (omega arith) in
-      rw (f, w, z, e) (t ∙ ap (λ (k : ℕ). take k es) m)
-
-  pub noted_within : n' ≤ length xs
-  noted_within = rw (f, z, e) (simp length-take (omega arith))

@@ -1,6 +1,6 @@
 -- What a layout that has passed the rules keeps.
-use Rattle.std.proofs.Common.{◌≡◌, ℕ, ◌+◌, ◌<◌, true, false, List, [], ◌++◌, length, set, Some, None, Option, sym, refl, ap, ◌∙◌, subst, ⊎_elim, arith}
-use Rattle.std.proofs.lemmas.List.{get_or_append_left, get_or-set_same, get_or-set_other}
+use Rattle.std.proofs.Common.{◌≡◌, ℕ, ◌+◌, ◌<◌, true, false, List, [], length, set, Some, None, Option, sym, refl, ap, ◌∙◌, subst, ⊎_elim, arith}
+use Rattle.std.proofs.lemmas.List.{get_or-set_same, get_or-set_other}
 use Rattle.std.proofs.lemmas.Bool.{cases_eq, cases_order, eq-eqb, not-false}
 use Rattle.sheet.specs.Layouts.{route_in, same_side}
 use Rattle.sheet.specs.Rules.{alike, shared, has_lever, has_signal, broken, lowest_broken}
@@ -26,13 +26,6 @@ within_more k c rs x l old new r lt =
     (λ e. subst P (sym (ap (route_in (set rs k x)) e ∙ get_or-set_same rs k x d l)) new)
     (λ ne. subst P (sym (get_or-set_other rs k r x d ne)) (old r (omega arith)))
     (cases_eq r k)
-
--- the same with other routes behind them
-pub within_front : (n : ℕ) (c : Counts) (front tail : List Route) → length front ≡ n → WithinTo n c front → WithinTo n c (front ++ tail)
-within_front n c front tail l w r h =
-    let d : Route = record { lever = 0; side = Up; signal = 0; release = Station; demands = []; named = [] } in
-    let P : Route → Type 0 = λ y. (y.lever < c.levers) × (y.signal < c.signals) in
-    subst P (sym (get_or_append_left front tail d r (omega arith))) (w r h)
 
 -- an accepted layout breaks no rule
 pub no_refusal : (k : PlanRule) (o : Option ℕ) (x : Outcome) (l : Layout) → refuse k o x ≡ accepted l → (o ≡ None) × (x ≡ accepted l)

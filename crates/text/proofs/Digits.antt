@@ -17,9 +17,6 @@ module _ (most n : ℕ) (xs : List ℕ) (i : ℕ) (h : i < length xs) where
   pub digit_more : is_digit (get_or xs i 0) ≡ true → read_on most n (drop i xs) ≡ read_on most (n * 10 + (get_or xs i 0 - 48)) (drop (i + 1) xs)
   digit_more d = at_drop_more (read_on most n) xs i 0 h ∙ rw d
 
-  pub digit_bad : is_digit (get_or xs i 0) ≡ false → read_on most n (drop i xs) ≡ None
-  digit_bad d = at_drop_more (read_on most n) xs i 0 h ∙ rw d
-
 and_none : (t : Bool) (n : ℕ) → cond (t && false) (Some n) None ≡ None
 and_none true n = refl
 and_none false n = refl

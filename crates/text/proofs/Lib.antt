@@ -1,4 +1,3 @@
 pub mod Hexes
 pub mod Newlines
 pub mod Digits
-pub mod Inputs
