@@ -73,6 +73,7 @@ impl<T: Token> Block for Consents<T> {
         Ok(())
     }
 
+    // It and `mend` differ in a truth value and a fault: each reads as its rule.
     fn cut(&mut self) -> Result<(), BlockFault> {
         if !self.whole {
             return Err(BlockFault::LineCut);

@@ -51,6 +51,7 @@ pub trait Block {
     }
 
     /// What a return would be answered.
+    // Its first two tests are those of a give, said again so that each call has its list.
     fn may_take_back(&self, route: usize) -> Result<(), BlockFault>
         ensures { result ≡ return_answer (meaning self.now) route }
     {

@@ -43,6 +43,7 @@ mod tests {
         RouteSet::from(members)
     }
 
+    // As the table of tests has it: 0 where a call is accepted.
     fn number_of(answer: Result<(), BlockFault>) -> u8 {
         answer.err().map_or(0, BlockFault::number)
     }

@@ -134,6 +134,7 @@ pub fn place(answer: Answer) -> usize
 }
 
 /// Accepted where a test passes, else refused.
+// Fault and place stand apart, so that a call reads as the rules do: test, fault, place.
 pub fn check(passes: bool, fault: FrameFault, place: usize) -> Answer
     ensures { result ≡ checked passes fault place }
 {

@@ -7,6 +7,7 @@ use crate::board::Board;
 use sheet::layout::Route;
 use sheet::plan::Plan;
 
+// That a point is one of thirty-two is asked where a row of points is read; each call has tested it.
 impl Board {
     /// Whether a route is set: its lever is thrown to its side. A number that the plan lacks is not.
     pub fn is_set(&self, plan: &Plan, r: usize) -> bool

@@ -9,6 +9,7 @@ use crate::frame::Frame;
 use block::interface::Block;
 use board::board::{Arm, Lever, Point, Stage};
 
+// `point`, `lever`, `field` and `arm` differ in the row that is asked: each is the library's `get`.
 impl<B: Block> Frame<B> {
     /// Whether a plan is loaded.
     pub fn is_loaded(&self) -> bool

@@ -52,6 +52,7 @@ mod tests {
         read(&worked_sheet()).map_err(|_| Fail::new("the worked sheet is refused"))
     }
 
+    // As the tables of tests have it: two numbers, 0 and 0 where a call is accepted.
     fn told(answer: Answer) -> (u8, usize) {
         (answer::number(answer), answer::place(answer))
     }

@@ -14,7 +14,7 @@ use frame::frame::Frame;
 use sheet::plan::Plan;
 use sheet::reader::read;
 use std::alloc::{AllocError, Global};
-use text::answers::refused_line;
+use text::answers::{ACCEPTED_LINE, NO_SHEET_LINE, refused_line};
 use text::input::sheet_bytes;
 use text::lines::split_line;
 
@@ -65,7 +65,7 @@ fn lines_in(
     let (count, noted) = note_in(rows, calls);
     let entries = &mut rows[0..count];
     work(plan, entries);
-    format!(in heap; "sheet 0 0\n{}{}", EntryLines(entries), closing(noted))
+    format!(in heap; "{ACCEPTED_LINE}{}{}", EntryLines(entries), closing(noted))
 }
 
 fn accepted_lines(heap: Global, plan: Plan, calls: &[u8]) -> Result<String, AllocError>
@@ -97,7 +97,7 @@ fn listed(heap: Global, input: &[u8]) -> Result<String, AllocError>
             let (_, calls) = split_line(input);
             sheet_listing(heap, sheet.as_slice(), calls)
         }
-        None => String::from_str(heap, "? 0 10 0\n"),
+        None => String::from_str(heap, NO_SHEET_LINE),
     }
 }
 

@@ -9,13 +9,15 @@ use crate::coded::Coded;
 use crate::fault::{Flaw, SheetFault};
 
 /// A sheet's bytes, and the bit at which the next field begins.
+// Lent bytes and a place beside them, since the field crates have no heap.
 #[derive(Drop)]
 pub(crate) struct BitReader<'a> {
     bytes: &'a [u8],
     at: usize,
 }
 
-// Each asks that it begins within 4,000 bits: a ghost field could not say so, since a reading moves on.
+// Each asks that it begins within 4,000 bits: a ghost field could not say so, since a reading moves on. A field's width is asked
+// wherever it is handed over as a number.
 impl<'a> BitReader<'a> {
     pub(crate) fn new(bytes: &'a [u8]) -> Self
         ensures sheet { result.bytes.now ≡ bytes.now }
@@ -44,7 +46,7 @@ impl<'a> BitReader<'a> {
             return Err(Flaw::EndsInside.at(start));
         }
         let mut value: usize = 0;
-        // A loop, since a `fold` over the bits does not know that the value stays within them.
+        // Over the places of the bits: numbers that index nothing.
         for k in 0..width {
             value = value * 2 + usize::from(self.bit(start + k));
         }

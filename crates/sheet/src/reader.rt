@@ -42,6 +42,7 @@ fn row<T: Coded>(
     requires places { (places.start ≤ places.end) × (places.end ≤ 32) }
     ensures { Reads bits.old result bits.new (row_at T.WIDTH T.value_of blank places.start places.end) (T.WIDTH * (places.end - places.start)) }
 {
+    // Room for the most places, as in a `Route`.
     let mut row = [blank; 32];
     // By number: no proof is made of a loop over `&mut row[places]` for any `T`.
     for k in places.start..places.end {
@@ -79,6 +80,7 @@ fn routes(bits: &mut BitReader, counts: Counts) -> Result<[Route; 32], SheetFaul
     ensures read { Reads bits.old result bits.new (routes_at counts) 3424 }
     ensures within { IfOk result (WithinTo counts.routes counts) }
 {
+    // Room for the most routes, as in a `Layout`.
     let mut rows = [NO_ROUTE; 32];
     let front = &mut rows[..counts.routes];
     for (k, place) in front.iter_mut().enumerate() {

@@ -18,6 +18,7 @@ mod tests {
 
     const FAULTS: [(u8, usize); 6] = [(7, 1), (7, 3), (8, 1), (8, 2), (9, 0), (9, 2)];
 
+    // One number for an entry and for a fault, so that a test compares them in a line.
     fn number(answer: Result<u8, BookFault>) -> u8 {
         answer.unwrap_or_else(|fault| fault.number())
     }

@@ -147,6 +147,7 @@ mod tests {
          0000000000000000006728618618618618618075a2492492492492492037b80000000000000000739861861861861861\
          81ded2492492492492492f780000000000000000ffd0c30c30c30c30c300";
 
+    // As the table of tests has it: two numbers, 0 and 0 where a sheet is accepted. So are a writing's below.
     fn answer(sheet: &[u8]) -> (u8, usize) {
         read(sheet).map_or_else(|fault| (fault.flaw.number(), fault.place), |_| (0, 0))
     }
