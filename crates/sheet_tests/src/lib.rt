@@ -2,6 +2,7 @@
 #![tactic(auto)]
 
 mod books;
+mod inputs;
 
 #[cfg(test)]
 mod tests {
