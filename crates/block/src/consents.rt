@@ -1,5 +1,5 @@
 //! A block of up to thirty-two places, with a token at each: what every make is built on.
-ghost use Rattle.std.specs.Prelude.{◌≡◌, ◌<◌, ◌≤◌, length};
+ghost use Rattle.std.specs.Prelude.{◌≡◌, ◌<◌, ◌≤◌, length, replicate, true};
 ghost use Rattle.block.specs.Meaning.{fresh_block, with_out};
 ghost use Rattle.block.specs.Consents.{consents_meaning};
 ghost use Rattle.std.proofs.Common.{rules};
@@ -19,17 +19,25 @@ pub struct Consents<T: Token> {
     ghost sized: { length tokens ≡ 32 },
     ghost some: { 1 ≤ lines },
     ghost few: { lines ≤ 32 },
-    ghost fewest: { T.fewest ≤ lines },
+    ghost fewest: { T.FEWEST ≤ lines },
 }
 
 impl<T: Token> Consents<T> {
     // Every consent is at home, and the line is whole.
     pub(crate) fn at_home(lines: usize) -> Self
-        requires { (1 ≤ lines) × (lines ≤ 32) × (T.fewest ≤ lines) }
+        requires { (1 ≤ lines) × (lines ≤ 32) × (T.FEWEST ≤ lines) }
         ensures { ⟦<Consents<T> as Block>⟧.meaning result ≡ fresh_block lines }
     {
+        Self::alike(lines, T::home())
+    }
+
+    // The same token at every place. Apart from `at_home`, so that a wrong one is refused where it stands.
+    fn alike(lines: usize, token: T) -> Self
+        requires { (1 ≤ lines) × (lines ≤ 32) × (T.FEWEST ≤ lines) }
+        ensures { ⟦<Consents<T> as Block>⟧.meaning result ≡ record { lines = lines; out = replicate lines (T.out token); whole = true } }
+    {
         Consents {
-            tokens: [T::home(); 32],
+            tokens: [token; 32],
             lines,
             whole: true,
         }
@@ -49,12 +57,16 @@ impl<T: Token> Block for Consents<T> {
 
     ghost formed = { λ b. Prim.search (rules, length-map, length-take) };
 
+    // The count is within these bounds anyway. By them the compiler too knows that a wire pair has thirty-two, which makes the scan of
+    // a give faster.
     fn lines(&self) -> usize {
-        self.lines
+        self.lines.clamp(T::FEWEST, 32)
     }
 
     fn is_out(&self, route: usize) -> bool {
-        self.tokens[..self.lines].get(route).is_some_and(T::is_out)
+        self.tokens[..self.lines()]
+            .get(route)
+            .is_some_and(T::is_out)
     }
 
     fn is_whole(&self) -> bool {

@@ -12,7 +12,9 @@ pub enum Key {
 impl Token for Key {
     ghost out = { in_box };
 
-    ghost fewest = { 1 };
+    ghost FEWEST = { 1 };
+
+    const FEWEST: usize = 1;
 
     fn home() -> Key {
         Key::OnHook

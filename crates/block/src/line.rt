@@ -21,7 +21,9 @@ pub struct Line {
 impl Token for Line {
     ghost out = { λ l. is_locked l.station };
 
-    ghost fewest = { 32 };
+    ghost FEWEST = { 32 };
+
+    const FEWEST: usize = 32;
 
     fn home() -> Line {
         Line {

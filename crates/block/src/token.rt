@@ -5,7 +5,9 @@ pub trait Token: Copy {
     ghost out: { Self → Bool };
 
     // The fewest lines that a block of such tokens has.
-    ghost fewest: { ℕ };
+    ghost FEWEST: { ℕ };
+
+    const FEWEST: usize;
 
     /// As it stands while the consent is at home.
     fn home() -> Self

@@ -51,7 +51,10 @@ impl Board {
         ensures answer { result ≡ set_answer plan.now.layout self.old out r }
         ensures after { self.new ≡ settled result (set_changed plan.now.layout self.old r) self.old }
     {
-        let route = plan.route(r).ok_or(FrameFault::NoSuchNumber.at(r))?;
+        // No `ok_or`, by which the whole route, that is lent on below, would be copied once more.
+        let Some(route) = plan.route(r) else {
+            return Err(FrameFault::NoSuchNumber.at(r));
+        };
         let lever = self.levers[route.lever];
         check(lever == Lever::Normal, FrameFault::LeverThrown, r)?;
         check(out, FrameFault::ConsentHome, r)?;

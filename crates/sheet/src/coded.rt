@@ -86,12 +86,14 @@ impl Coded for Option<Position> {
     }
 
     fn from_code(code: usize) -> Option<Self> {
-        match code {
-            0 => Some(None),
-            1 => Some(Some(Position::Plus)),
-            2 => Some(Some(Position::Minus)),
-            _ => None,
-        }
+        // No match on the code: over a row of points it branches differently from one to the next, which costs more than to read it.
+        // For code 0 the position is not used.
+        let position = if code == 1 {
+            Position::Plus
+        } else {
+            Position::Minus
+        };
+        (code < 3).then_some((code > 0).then_some(position))
     }
 }
 

@@ -2,15 +2,18 @@
 ghost use Rattle.std.specs.Prelude.{◌≡◌, ◌<◌, ◌≤◌, false};
 ghost use Rattle.sheet.specs.Hostility.{are_hostile, clashing, hostiles_of, opponents, opposed};
 
+use crate::coded::Coded;
 use crate::layout::{Position, Route};
 use crate::plan::Plan;
 use basics::route_set::RouteSet;
 use std::array;
 
+// By the codes, 0 for nothing, 1 for plus and 2 for minus: only plus and minus make 3. To test `a` first changes no answer and saves
+// time, since `a` is one route's against all others. A comparison of the options also branches on `b`, and took twice as long.
 fn are_opposed(a: Option<Position>, b: Option<Position>) -> bool
     ensures { result ≡ opposed a b }
 {
-    a.zip(b).is_some_and(|(a, b)| a != b)
+    a.is_some() && a.code() + b.code() == 3
 }
 
 // Whether two routes demand one of the first points in both positions.

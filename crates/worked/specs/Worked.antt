@@ -1,5 +1,5 @@
 -- The worked duty on the worked sheet, what else is answered there, and states that are reached: computed from the rules.
-use Rattle.std.specs.Prelude.{Bool, true, false, List, [], ◌∷◌, ◌++◌, map, ◌≡◌, ℕ, take, replicate, Some, None}
+use Rattle.std.specs.Prelude.{Bool, true, false, List, [], ◌∷◌, ◌++◌, map, ◌≡◌, ℕ, take, replicate, Option, Some, None}
 use Rattle.sheet.specs.Decode.{accepted, decode}
 use Rattle.sheet.specs.Layouts.{no_route}
 use Rattle.sheet.specs.Worked.{Answer, answers, answer_of, copies, worked_sheet}
@@ -26,13 +26,13 @@ use Rattle.frame.specs.Runs.{run_after, run_noted}
 
 -- one point; routes 0 and 1 on the two sides of lever 0 and on signal 0, plus and minus; route 2 on lever 1 and signal 1, plus
 -- and train-worked
-abbrev pub worked_route : ℕ → Side → ℕ → ReleasedBy → Position → Route
-worked_route v x g f d = record { lever = v; side = x; signal = g; release = f; demands = Some d ∷ replicate 31 None; named = replicate 32 false }
+abbrev pub worked_route : ℕ → Side → ℕ → ReleasedBy → Option Position → Route
+worked_route v x g f d = record { lever = v; side = x; signal = g; release = f; demands = d ∷ replicate 31 None; named = replicate 32 false }
 
 abbrev pub worked_plan : Layout
 worked_plan = record {
   counts = record { points = 1; signals = 2; levers = 2; routes = 3 };
-  routes = worked_route 0 Up 0 Station Plus ∷ worked_route 0 Down 0 Station Minus ∷ worked_route 1 Up 1 Train Plus ∷ replicate 29 no_route;
+  routes = worked_route 0 Up 0 Station (Some Plus) ∷ worked_route 0 Down 0 Station (Some Minus) ∷ worked_route 1 Up 1 Train (Some Plus) ∷ replicate 29 no_route;
 }
 
 -- it is loaded over a fresh block

@@ -1,7 +1,0 @@
-use lib.LanesLaws.{map-replicate}
-use Rattle.std.proofs.Common.{arith}
-use Rattle.std.proofs.lemmas.List.{take-replicate}
-use Rattle.block.proofs.consents.Consents.at_home.Goals as goal
-
-pub returns : goal.returns
-returns g c = simp (take-replicate c.args.lines 32 c.home.result (omega arith), map-replicate, c.home.ensures)
